@@ -1,0 +1,6 @@
+pub mod formers
+pub mod Counts
+pub mod Library
+pub mod Sink
+pub mod MemoryLibrary
+pub mod MemorySink

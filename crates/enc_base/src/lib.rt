@@ -1,0 +1,22 @@
+//! Names, lists, boxes, the library of input files and the sink of output.
+#![tactic(auto)]
+
+mod boxed;
+mod error;
+mod host;
+mod library;
+mod list;
+mod memory_library;
+mod memory_sink;
+mod name;
+mod sink;
+
+pub use boxed::Boxed;
+pub use error::{Failed, NoMemory, ReadFault};
+pub use host::{HostLibrary, HostSink};
+pub use library::Library;
+pub use list::List;
+pub use memory_library::{MemoryLibrary, StoredFile};
+pub use memory_sink::MemorySink;
+pub use name::Name;
+pub use sink::Sink;

@@ -1,0 +1,9 @@
+//! The program `tfenc`.
+#![tactic(auto)]
+
+use std::io;
+
+fn main(rt: HostRuntime) -> io::Result<()> {
+    println!(rt; "tfenc")?;
+    Ok(())
+}
