@@ -1,0 +1,4 @@
+pub mod Truth
+pub mod Sound
+pub mod Quantified
+pub mod Tabled
