@@ -166,18 +166,18 @@ All-rows : (P : ℕ → Type 0) (bound : ℕ) (row : ℕ → List ℕ) →
 All-rows P zero row each i within = absurd (omega arith)
 All-rows P (suc bound) row each i within =
     ⊎_elim
-        (λ earlier.
-            subst P (sym (get_or_append_left (rows bound row) (row bound) 0 i earlier))
-                (All-rows P bound row (λ n below. each n (omega (arith, below))) i earlier))
-        (λ later.
-            let there : length (rows bound row) ≤ i = later in
-            let at : i ≡ length (rows bound row) + (i - length (rows bound row)) = omega arith in
-            subst P
-                (sym (get_or-append-add (rows bound row) (row bound) (i - length (rows bound row)) 0)
-                ∙ ap (λ k. get_or (rows bound row ++ row bound) k 0) (sym at))
-                (each bound (omega arith) (i - length (rows bound row))
-                    (omega (arith, within, length-append (rows bound row) (row bound)))))
-        (cases_lt i (length (rows bound row)))
+    (λ earlier.
+    subst P (sym (get_or_append_left (rows bound row) (row bound) 0 i earlier))
+    (All-rows P bound row (λ n below. each n (omega (arith, below))) i earlier))
+    (λ later.
+    let there : length (rows bound row) ≤ i = later in
+    let at : i ≡ length (rows bound row) + (i - length (rows bound row)) = omega arith in
+    subst P
+    (sym (get_or-append-add (rows bound row) (row bound) (i - length (rows bound row)) 0)
+    ∙ ap (λ k. get_or (rows bound row ++ row bound) k 0) (sym at))
+    (each bound (omega arith) (i - length (rows bound row))
+    (omega (arith, within, length-append (rows bound row) (row bound)))))
+    (cases_lt i (length (rows bound row)))
 
 pub table-each : (bounds : List ℕ) (f : List ℕ → ℕ) (P : ℕ → Type 0) →
     ((values : List ℕ) → EachBelow bounds values → P (f values)) →
@@ -186,9 +186,9 @@ table-each [] f P each zero within = each [] tt
 table-each [] f P each (suc i) within = absurd (omega arith)
 table-each (bound ∷ bounds) f P each i within =
     All-rows P bound (λ n. table bounds (λ values. f (n ∷ values)))
-        (λ n below. table-each bounds (λ values. f (n ∷ values)) P
-            (λ values inside. each (n ∷ values) (below, inside)))
-        i within
+    (λ n below. table-each bounds (λ values. f (n ∷ values)) P
+    (λ values inside. each (n ∷ values) (below, inside)))
+    i within
 
 -- a tuple is as long as its bounds
 pub EachBelow-length : (count bound : ℕ) (values : List ℕ) →

@@ -36,9 +36,9 @@ pub is_term-apply : (signature : List FofSymbol) (f : ℕ) (terms : List FofTerm
 is_term-apply signature f terms binders =
     ap (λ x. is_term signature x binders) (sym (term.rolls-Apply f terms)) ∙ is_term-roll signature (term_layer.Apply f terms) binders
     ∙ ap (λ n. is_symbol (slice_get signature f) false n && list_all (λ test. test binders) (map (is_term signature) terms))
-        (length-map terms (is_term signature))
+    (length-map terms (is_term signature))
     ∙ ap (λ b. is_symbol (slice_get signature f) false (length terms) && b)
-        (list_all-map (λ (test : ℕ → Bool). test binders) (is_term signature) terms)
+    (list_all-map (λ (test : ℕ → Bool). test binders) (is_term signature) terms)
 
 is_formula-roll : (signature : List FofSymbol) (x : Fof-F Fof) (binders : ℕ) →
     is_formula signature (roll-Fof x) binders

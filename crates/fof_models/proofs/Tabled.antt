@@ -1,15 +1,17 @@
 -- Tables as functions and functions as tables.
-use Rattle.std.specs.Prelude.{ℕ, zero, suc, ◌+◌, ◌<◌, ◌≡◌, Bool, true, false, not, ◌&&◌, ◌||◌, List, [], ◌∷◌, map, length, eqb, get_or, replicate, slice_index, slice_get, Option, Some, None, IsTrue}
-use Rattle.std.specs.List.{AllByRecursion, list_all, list_any}
+use Rattle.std.specs.Prelude.{ℕ, zero, suc, ◌+◌, ◌<◌, ◌≡◌, List, [], ◌∷◌, length, get_or, replicate, slice_index, slice_get, Some}
+use Rattle.std.specs.List.{AllByRecursion}
 use Rattle.std.proofs.Common.{refl, sym, ap, ◌∙◌, subst, arith}
-use Rattle.std.proofs.lemmas.Bool.{and_parts, eqb-true, false≢true}
-use Rattle.enc_base.specs.Tables.{EachBelow, tuple_count, place, table}
+use Rattle.enc_base.specs.Tables.{EachBelow, place}
 use Rattle.enc_base.proofs.Tables.{place_within, length-table, table-at, table-each, EachBelow-length}
 use Rattle.fof_models.specs.declared.problem.FofSymbol.{FofSymbol}
 use Rattle.fof_models.specs.declared.problem.FofProblem.{FofProblem}
 use Rattle.fof_models.specs.declared.structure.Structure.{Structure}
-use Rattle.fof_models.specs.Structures.{Untyped, table_of, reading, values_below, IsStructure, IsWellFormed}
-use Rattle.fof_models.specs.Models.{IsModel, AreModel}
+use Rattle.fof_models.specs.Structures.{Untyped, table_of, reading, values_below, AreElements, IsStructure, IsWellFormed}
+use Rattle.fof_models.specs.declared.problem.FofFormula.{FofFormula}
+use Rattle.fof_models.specs.Models.{IsModel, AreModel, AreSatisfied}
+use Rattle.fof_models.specs.Sound.{IsSound, IsSoundFormula}
+use Rattle.fof_models.proofs.Agreement.{truth-agrees}
 use Rattle.fof_models.specs.Tabled.{symbol_table, symbol_tables, tabled}
 
 -- a value that a structure of tables gives is an entry of the symbol's table
@@ -20,11 +22,11 @@ IsStructure-reading signature s well_formed = record {
   values = λ f symbol elements at below.
       let count : symbol.arity ≡ length elements = EachBelow-length symbol.arity s.size elements below in
       let there : place (replicate symbol.arity s.size) elements < length (table_of s f) =
-          rw (well_formed.lengths f symbol at) (place_within (replicate symbol.arity s.size) elements below) in
+      rw (well_formed.lengths f symbol at) (place_within (replicate symbol.arity s.size) elements below) in
       subst
-          (λ n. slice_index (table_of s f) (place (replicate n s.size) elements) < values_below symbol s.size)
-          count
-          (well_formed.entries f symbol (place (replicate symbol.arity s.size) elements) at there);
+      (λ n. slice_index (table_of s f) (place (replicate n s.size) elements) < values_below symbol s.size)
+      count
+      (well_formed.entries f symbol (place (replicate symbol.arity s.size) elements) at there);
 }
 
 -- the table of the f-th symbol
@@ -62,10 +64,10 @@ IsWellFormed-tabled signature s fits = record {
       ∙ length-table (replicate symbol.arity s.size) (s.symbol_at f);
   entries = λ f symbol i at within.
       subst (λ t. slice_index t i < values_below symbol s.size)
-          (sym (table_is signature s f symbol at))
-          (table-each (replicate symbol.arity s.size) (s.symbol_at f) (λ v. v < values_below symbol s.size)
-              (λ elements below. fits.values f symbol elements at below)
-              i (subst (λ t. i < length t) (table_is signature s f symbol at) within));
+      (sym (table_is signature s f symbol at))
+      (table-each (replicate symbol.arity s.size) (s.symbol_at f) (λ v. v < values_below symbol s.size)
+      (λ elements below. fits.values f symbol elements at below)
+      i (subst (λ t. i < length t) (table_is signature s f symbol at) within));
 }
 
 pub symbol_at-tabled : (signature : List FofSymbol) (s : Untyped) (f : ℕ) (symbol : FofSymbol)
@@ -75,7 +77,7 @@ pub symbol_at-tabled : (signature : List FofSymbol) (s : Untyped) (f : ℕ) (sym
 symbol_at-tabled signature s f symbol elements at below =
     let count : length elements ≡ symbol.arity = sym (EachBelow-length symbol.arity s.size elements below) in
     ap (λ t. slice_index t (place (replicate (length elements) s.size) elements))
-        (table_is signature s f symbol at)
+    (table_is signature s f symbol at)
     ∙ ap (λ n. slice_index (symbol_table s symbol f) (place (replicate n s.size) elements)) count
     ∙ table-at (replicate symbol.arity s.size) elements (s.symbol_at f) below
 
@@ -85,3 +87,24 @@ IsModel-reading problem s model = record {
   structure = IsStructure-reading problem.signature s model.well_formed;
   formulas = model.formulas;
 }
+
+-- an empty assignment
+AreElements-none : (size : ℕ) → AreElements size []
+AreElements-none size = record { below = λ i within. absurd (omega arith) }
+
+pub AreModel-tabled : (problem : FofProblem) (s : Untyped) → IsSound problem → IsModel problem s →
+    AreModel problem (tabled problem.signature s)
+AreModel-tabled problem s sound model = record {
+  well_formed = IsWellFormed-tabled problem.signature s model.structure;
+  formulas = each problem.formulas sound.formulas model.formulas;
+}
+  where
+    each : (formulas : List FofFormula) → AllByRecursion (IsSoundFormula problem.signature) formulas →
+        AreSatisfied s formulas → AreSatisfied (reading (tabled problem.signature s)) formulas
+    each [] are satisfied = tt
+    each (formula ∷ formulas) are satisfied = (
+      truth-agrees problem.signature s (reading (tabled problem.signature s)) model.structure refl
+          (symbol_at-tabled problem.signature s) formula.body [] (AreElements-none s.size) are.0.typed
+          ∙ satisfied.0,
+      each formulas are.1 satisfied.1,
+    )

@@ -1,5 +1,5 @@
 -- What the definitions promise one another.
-use Rattle.std.specs.Prelude.{ℕ, ◌<◌, ◌≡◌, ◌↔◌, List, ◌∷◌, length, get_or, replicate, slice_get, Option, Some, IsTrue}
+use Rattle.std.specs.Prelude.{ℕ, ◌<◌, ◌≡◌, ◌↔◌, List, ◌∷◌, length, get_or, replicate, slice_get, Some, IsTrue}
 use Rattle.enc_base.specs.Tables.{EachBelow, tuple_count, place, table}
 use Rattle.fof_models.specs.declared.formula.Fof.{Fof}
 use Rattle.fof_models.specs.declared.formula.Fof.TheVariants.{ForAll, Exists}
