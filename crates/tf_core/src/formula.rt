@@ -88,12 +88,12 @@ impl Formula {
             (Formula::Or(parts), Formula::Or(others)) => {
                 same_formulas(parts.as_slice(), others.as_slice())
             }
-            (Formula::Implies(a, b), Formula::Implies(c, d)) => same_pair(a, b, c, d),
-            (Formula::If(a, b), Formula::If(c, d)) => same_pair(a, b, c, d),
-            (Formula::Iff(a, b), Formula::Iff(c, d)) => same_pair(a, b, c, d),
-            (Formula::Xor(a, b), Formula::Xor(c, d)) => same_pair(a, b, c, d),
-            (Formula::Nand(a, b), Formula::Nand(c, d)) => same_pair(a, b, c, d),
-            (Formula::Nor(a, b), Formula::Nor(c, d)) => same_pair(a, b, c, d),
+            (Formula::Implies(a, b), Formula::Implies(c, d)) => same_boxed(a, c) && same_boxed(b, d),
+            (Formula::If(a, b), Formula::If(c, d)) => same_boxed(a, c) && same_boxed(b, d),
+            (Formula::Iff(a, b), Formula::Iff(c, d)) => same_boxed(a, c) && same_boxed(b, d),
+            (Formula::Xor(a, b), Formula::Xor(c, d)) => same_boxed(a, c) && same_boxed(b, d),
+            (Formula::Nand(a, b), Formula::Nand(c, d)) => same_boxed(a, c) && same_boxed(b, d),
+            (Formula::Nor(a, b), Formula::Nor(c, d)) => same_boxed(a, c) && same_boxed(b, d),
             (Formula::ForAll(ty, body), Formula::ForAll(other_ty, other_body)) => {
                 ty.same(other_ty) && body.get().same(other_body.get())
             }
@@ -113,12 +113,12 @@ fn copy_boxed(alloc: Global, formula: &Boxed<Formula>) -> Result<Boxed<Formula>,
     Boxed::new(alloc, formula.get().copy(alloc)?)
 }
 
-// whether the formulas of two pairs are equal
+// whether two boxes hold equal formulas
 #[cycle(same_formula)]
-fn same_pair(a: &Boxed<Formula>, b: &Boxed<Formula>, c: &Boxed<Formula>, d: &Boxed<Formula>) -> bool
-    ensures { IsTrue result ↔ ((a.now ≡ c.now) × (b.now ≡ d.now)) }
+fn same_boxed(formula: &Boxed<Formula>, other: &Boxed<Formula>) -> bool
+    ensures { IsTrue result ↔ (formula.now ≡ other.now) }
 {
-    a.get().same(c.get()) && b.get().same(d.get())
+    formula.get().same(other.get())
 }
 
 /// Equal formulas.
