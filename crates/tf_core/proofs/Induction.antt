@@ -14,7 +14,7 @@ use Rattle.tf_core.specs.declared.term.Term.TheOpen as term_layer
 use Rattle.tf_core.specs.declared.term.Term.TheFolds.{ind-Term, map-Term}
 
 -- the facts that stand beside the parts of a layer hold of each part
-all_of_pairs : {A : Type 0} (P : A → Type 0) (pairs : List ((a : A) × P a)) →
+pub all_of_pairs : {A : Type 0} (P : A → Type 0) (pairs : List ((a : A) × P a)) →
     AllByRecursion P (map (λ pair. pair.0) pairs)
 all_of_pairs P [] = tt
 all_of_pairs P (pair ∷ pairs) = (pair.1, all_of_pairs P pairs)

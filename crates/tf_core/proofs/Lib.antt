@@ -7,3 +7,6 @@ pub mod Induction
 pub mod Instances
 pub mod Built
 pub mod Quantified
+pub mod FormulaInduction
+pub mod Depth
+pub mod StatedFormulas

@@ -1,5 +1,7 @@
-ghost use Rattle.std.specs.Prelude.{◌≡◌, ◌↔◌, IsTrue, IfOk};
+ghost use Rattle.std.specs.Prelude.{◌≡◌, ◌↔◌, ◌<◌, ◌^◌, IsTrue, IfOk, map, sum};
+ghost use Rattle.tf_core.specs.Counts.{binder_count, depth, greatest};
 
+use crate::number::greater;
 use crate::term::{Term, copy_terms, same_terms};
 use crate::ty::{Ty, copy_types, same_types};
 use enc_base::{Boxed, List, NoMemory};
@@ -103,6 +105,44 @@ impl Formula {
             _ => false,
         }
     }
+
+    // the greatest number of nested binders
+    #[cycle(nested)]
+    pub(crate) fn nested(&self) -> u32
+        requires bound { binder_count self.now < 2 ^ 27 }
+        ensures exact { result ≡ depth self.now }
+    {
+        match self {
+            Formula::True => 0,
+            Formula::False => 0,
+            Formula::Atom(_, _, _) => 0,
+            Formula::Equal(_, _, _) => 0,
+            Formula::Not(a) => a.get().nested(),
+            Formula::And(parts) => most_nested(parts.as_slice()),
+            Formula::Or(parts) => most_nested(parts.as_slice()),
+            Formula::Implies(a, b) => greater(a.get().nested(), b.get().nested()),
+            Formula::If(a, b) => greater(a.get().nested(), b.get().nested()),
+            Formula::Iff(a, b) => greater(a.get().nested(), b.get().nested()),
+            Formula::Xor(a, b) => greater(a.get().nested(), b.get().nested()),
+            Formula::Nand(a, b) => greater(a.get().nested(), b.get().nested()),
+            Formula::Nor(a, b) => greater(a.get().nested(), b.get().nested()),
+            Formula::ForAll(_, body) => body.get().nested() + 1,
+            Formula::Exists(_, body) => body.get().nested() + 1,
+        }
+    }
+}
+
+// the greatest number of nested binders in formulas
+#[cycle(nested)]
+fn most_nested(parts: &[Formula]) -> u32
+    requires bound { sum (map binder_count parts.now) < 2 ^ 27 }
+    ensures exact { result ≡ greatest (map depth parts.now) }
+{
+    let mut most = 0;
+    for part in parts {
+        most = greater(most, part.nested());
+    }
+    most
 }
 
 // an equal formula in a box of its own

@@ -5,6 +5,7 @@ mod formula;
 mod laws;
 mod nnf;
 mod normal;
+mod number;
 mod problem;
 mod signature;
 mod term;

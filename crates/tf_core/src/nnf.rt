@@ -1,6 +1,8 @@
-ghost use Rattle.std.specs.Prelude.{◌≡◌, ◌↔◌, IsTrue, IfOk, map};
+ghost use Rattle.std.specs.Prelude.{◌≡◌, ◌↔◌, ◌<◌, ◌^◌, IsTrue, IfOk, map, sum};
+ghost use Rattle.tf_core.specs.Counts.{normal_binder_count, normal_depth, greatest};
 ghost use Rattle.tf_core.specs.Substitution.{substitute_types};
 
+use crate::number::greater;
 use crate::term::{Term, copy_terms, same_terms, substituted_terms};
 use crate::ty::{Ty, copy_types, instances_of, same_types};
 use enc_base::{Boxed, List, NoMemory};
@@ -106,6 +108,24 @@ impl Nnf {
             }
         }
     }
+
+    // the greatest number of nested binders
+    #[cycle(nested_nnf)]
+    pub(crate) fn nested(&self) -> u32
+        requires bound { normal_binder_count self.now < 2 ^ 28 }
+        ensures exact { result ≡ normal_depth self.now }
+    {
+        match self {
+            Nnf::True => 0,
+            Nnf::False => 0,
+            Nnf::Atom(_, _, _, _) => 0,
+            Nnf::Equation(_, _, _, _) => 0,
+            Nnf::And(parts) => most_nested(parts.as_slice()),
+            Nnf::Or(parts) => most_nested(parts.as_slice()),
+            Nnf::ForAll(_, body) => body.get().nested() + 1,
+            Nnf::Exists(_, body) => body.get().nested() + 1,
+        }
+    }
 }
 
 // a formula with its type variables replaced, in a box of its own
@@ -130,6 +150,19 @@ fn substituted_parts(alloc: Global, parts: &[Nnf], types: &[Ty]) -> Result<List<
         made.push(part.substitute_types(alloc, types)?)?;
     }
     Ok(made)
+}
+
+// the greatest number of nested binders in formulas
+#[cycle(nested_nnf)]
+fn most_nested(parts: &[Nnf]) -> u32
+    requires bound { sum (map normal_binder_count parts.now) < 2 ^ 28 }
+    ensures exact { result ≡ greatest (map normal_depth parts.now) }
+{
+    let mut most = 0;
+    for part in parts {
+        most = greater(most, part.nested());
+    }
+    most
 }
 
 // an equal formula in a box of its own

@@ -1,6 +1,10 @@
-ghost use Rattle.std.specs.Prelude.{◌≡◌, ◌↔◌, IsTrue, IfOk};
+ghost use Rattle.std.specs.Prelude.{◌≡◌, ◌↔◌, IsTrue, IfOk, eqb};
+ghost use Rattle.std.specs.List.{list_all};
+ghost use Rattle.tf_core.specs.Counts.{most_normal_types, most_normal_terms};
+ghost use Rattle.tf_core.specs.Sound.{IsSoundNormal, is_monomorphic};
 
 use crate::nnf::Nnf;
+use crate::number::greater;
 use crate::signature::Signature;
 use enc_base::{List, Name, NoMemory};
 use std::alloc::Global;
@@ -94,4 +98,53 @@ impl Normal {
             && same_normal_formulas(self.formulas.as_slice(), other.formulas.as_slice())
             && self.fresh == other.fresh
     }
+
+    /// Whether no symbol has a parameter and no formula a type variable. It takes no memory.
+    pub fn is_monomorphic(&self) -> bool
+        requires sound { IsSoundNormal self.now }
+        ensures exact { result ≡ is_monomorphic self.now }
+    {
+        for symbol in self.signature.symbols.as_slice() {
+            if symbol.parameters != 0 {
+                return false;
+            }
+        }
+        are_ground(self.formulas.as_slice())
+    }
+
+    /// The greatest number of type variables of a formula of the problem. It takes no memory.
+    pub fn most_types(&self) -> u32
+        requires sound { IsSoundNormal self.now }
+        ensures exact { result ≡ most_normal_types self.now }
+    {
+        let mut most = 0;
+        for formula in self.formulas.as_slice() {
+            most = greater(most, formula.type_variables);
+        }
+        most
+    }
+
+    /// The greatest number of nested binders in a formula of the problem. It takes no memory.
+    pub fn most_terms(&self) -> u32
+        requires sound { IsSoundNormal self.now }
+        ensures exact { result ≡ most_normal_terms self.now }
+    {
+        let mut most = 0;
+        for formula in self.formulas.as_slice() {
+            most = greater(most, formula.body.nested());
+        }
+        most
+    }
+}
+
+// whether no formula has a type variable
+fn are_ground(formulas: &[NormalFormula]) -> bool
+    ensures { result ≡ list_all (λ formula. eqb formula.type_variables 0) formulas.now }
+{
+    for formula in formulas {
+        if formula.type_variables != 0 {
+            return false;
+        }
+    }
+    true
 }

@@ -1,6 +1,9 @@
 ghost use Rattle.std.specs.Prelude.{◌≡◌, ◌↔◌, IsTrue, IfOk};
+ghost use Rattle.tf_core.specs.Counts.{most_types, most_terms};
+ghost use Rattle.tf_core.specs.Sound.{IsSound};
 
 use crate::formula::Formula;
+use crate::number::greater;
 use crate::signature::Signature;
 use enc_base::{List, Name, NoMemory};
 use std::alloc::Global;
@@ -118,5 +121,29 @@ impl Problem {
     {
         self.signature.same(&other.signature)
             && same_stated(self.formulas.as_slice(), other.formulas.as_slice())
+    }
+
+    /// The greatest number of type variables of a formula of the problem. It takes no memory.
+    pub fn most_types(&self) -> u32
+        requires sound { IsSound self.now }
+        ensures exact { result ≡ most_types self.now }
+    {
+        let mut most = 0;
+        for formula in self.formulas.as_slice() {
+            most = greater(most, formula.type_variables);
+        }
+        most
+    }
+
+    /// The greatest number of nested binders in a formula of the problem. It takes no memory.
+    pub fn most_terms(&self) -> u32
+        requires sound { IsSound self.now }
+        ensures exact { result ≡ most_terms self.now }
+    {
+        let mut most = 0;
+        for formula in self.formulas.as_slice() {
+            most = greater(most, formula.body.nested());
+        }
+        most
     }
 }
