@@ -9,3 +9,4 @@ pub mod Parts
 pub mod Depth
 pub mod Stated
 pub mod WellFormed
+pub mod Rows

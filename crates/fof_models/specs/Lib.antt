@@ -6,3 +6,4 @@ pub mod Room
 pub mod Evaluation
 pub mod Tabled
 pub mod Laws
+pub mod Rows

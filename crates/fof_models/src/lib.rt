@@ -8,6 +8,8 @@ mod holds;
 mod laws;
 mod problem;
 mod structure;
+#[cfg(test)]
+mod tests;
 mod value;
 mod well_formed;
 
