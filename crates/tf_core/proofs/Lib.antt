@@ -10,3 +10,6 @@ pub mod Quantified
 pub mod FormulaInduction
 pub mod Depth
 pub mod StatedFormulas
+pub mod Typed
+pub mod Checked
+pub mod TypedTerms

@@ -10,6 +10,7 @@ mod problem;
 mod signature;
 mod term;
 mod ty;
+mod typing;
 
 pub use formula::{Formula, copy_formulas, same_formulas};
 pub use laws::{
