@@ -4,3 +4,4 @@ pub mod Library
 pub mod Sink
 pub mod MemoryLibrary
 pub mod MemorySink
+pub mod Host
