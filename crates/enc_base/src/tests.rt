@@ -68,5 +68,6 @@ fn lists_boxes_and_names_give_back_what_they_hold(rt: HostRuntime) -> Result<(),
     assert!(rt; name.same(&name.copy(alloc)?));
     assert!(rt; !name.same(&Name::from_slice(alloc, b"nul")?));
     assert_eq!(rt; name.as_slice(), b"nil".as_slice());
+    assert_eq!(rt; name.to_string(alloc)?.as_str(), "nil");
     Ok(())
 }
