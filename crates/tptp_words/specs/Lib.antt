@@ -1,3 +1,4 @@
 pub mod Text
 pub mod Layout
 pub mod Words
+pub mod Scanning

@@ -1,6 +1,10 @@
 //! The words of a TPTP text, one by one, with their places.
 #![tactic(auto)]
 
+mod bytes;
+mod number;
+mod piece;
+mod quoted;
 mod word;
 
 pub use word::{Word, WordError, WordKind};
