@@ -2,3 +2,4 @@ pub mod Text
 pub mod Layout
 pub mod Words
 pub mod Scanning
+pub mod Steps

@@ -6,5 +6,7 @@ mod number;
 mod piece;
 mod quoted;
 mod word;
+mod words;
 
 pub use word::{Word, WordError, WordKind};
+pub use words::Words;
