@@ -1,0 +1,3 @@
+pub mod Passes
+pub mod Numbers
+pub mod NumberCuts
