@@ -1,3 +1,4 @@
 pub mod Passes
 pub mod Numbers
 pub mod NumberCuts
+pub mod Marks
