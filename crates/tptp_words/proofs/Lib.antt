@@ -2,3 +2,8 @@ pub mod Passes
 pub mod Numbers
 pub mod NumberCuts
 pub mod Marks
+pub mod Says
+pub mod Quotes
+pub mod Blocks
+pub mod Names
+pub mod Pieces

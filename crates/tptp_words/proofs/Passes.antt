@@ -18,6 +18,12 @@ drop-front text front rest n is size =
     ap (λ z. drop n z) is ∙ ap (λ m. drop m (front ++ rest)) (sym size)
     ∙ drop-append_seam front rest
 
+pub drop_past : (text : List ℕ) (n : ℕ) → length text ≤ n → drop n text ≡ []
+drop_past [] zero h = refl
+drop_past [] (suc n) h = refl
+drop_past (b ∷ text) zero h = absurd (omega (arith, h))
+drop_past (b ∷ text) (suc n) h = drop_past text n (omega (arith, h))
+
 pub prefix_len-over : (p : ℕ → Bool) (ds rest : List ℕ) → AllPass p ds
     → prefix_len p (ds ++ rest) ≡ length ds + prefix_len p rest
 prefix_len-over p [] rest h = omega arith

@@ -14,7 +14,7 @@ use crate::word::WordKind;
 pub enum Piece {
     /// Nothing: the text has no bytes.
     End,
-    /// So many bytes of a gap.
+    /// So many bytes of a gap, or all that are left where these are fewer.
     Gap(usize),
     /// A word of this kind and length.
     Word(WordKind, usize),
@@ -86,7 +86,7 @@ pub fn piece_at(text: &[u8]) -> Piece
         b' ' | b'\t' | b'\r' | b'\n' => Piece::Gap(1),
         b'a'..=b'z' => Piece::Word(WordKind::Lower, 1 + name_len(rest)),
         b'A'..=b'Z' => Piece::Word(WordKind::Upper, 1 + name_len(rest)),
-        b'%' => Piece::Gap(1 + line_len(rest)),
+        b'%' => Piece::Gap(2 + line_len(rest)),
         b'/' => block(rest),
         b'\'' | b'"' => quoted(*first, rest),
         b'$' => dollar(rest),
