@@ -7,3 +7,5 @@ pub mod Quotes
 pub mod Blocks
 pub mod Names
 pub mod Pieces
+pub mod Gaps
+pub mod Lists
