@@ -9,3 +9,4 @@ pub mod Names
 pub mod Pieces
 pub mod Gaps
 pub mod Lists
+pub mod OneText

@@ -114,10 +114,10 @@ behind_block body text =
         (omega (arith, size))
 
 -- with enough turns, this is what is left
-abbrev Leaves : ℕ → List ℕ → Left → Type 0
+abbrev pub Leaves : ℕ → List ℕ → Left → Type 0
 Leaves total text l = (n : ℕ) → length text ≤ n → left_from total n text ≡ l
 
-turned : (total : ℕ) (text : List ℕ) (p : Piece) (l : Left) → piece_at text ≡ p
+pub turned : (total : ℕ) (text : List ℕ) (p : Piece) (l : Left) → piece_at text ≡ p
     → 1 ≤ length text → ((n : ℕ) → length text ≤ suc n → turn total (left_from total n) text p ≡ l)
     → Leaves total text l
 unfolding left_from
@@ -125,7 +125,7 @@ turned total text p l e some h zero i = absurd (omega (arith, some, i))
 turned total text p l e some h (suc n) i =
     ap (λ z. turn total (left_from total n) text z) e ∙ h n i
 
-gap_leaves : (total : ℕ) (l : Left) {text rest : List ℕ} → Gap text rest → Leaves total rest l
+pub gap_leaves : (total : ℕ) (l : Left) {text rest : List ℕ} → Gap text rest → Leaves total rest l
     → Leaves total text l
 gap_leaves total l none k = k
 gap_leaves total l (blank {b = b} {text = text} e g) k =
