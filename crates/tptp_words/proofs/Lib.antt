@@ -10,3 +10,4 @@ pub mod Pieces
 pub mod Gaps
 pub mod Lists
 pub mod OneText
+pub mod Steps

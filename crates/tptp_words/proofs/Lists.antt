@@ -51,7 +51,7 @@ pub spelled_some : (kind : WordKind) (s : List ℕ) → Spells kind s → 1 ≤ 
 spelled_some kind [] h = let there = found kind [] [] h in absurd (cc there.1)
 spelled_some kind (b ∷ s) h = omega arith
 
-word_some : (text : List ℕ) (kind : WordKind) (n : ℕ) → Cut (Spells kind) text n
+pub word_some : (text : List ℕ) (kind : WordKind) (n : ℕ) → Cut (Spells kind) text n
     → (1 ≤ n) × (1 ≤ length text)
 word_some text kind n c =
     let some = spelled_some kind c.front c.holds in

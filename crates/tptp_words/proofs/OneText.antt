@@ -135,3 +135,24 @@ unique total (w ∷ ws) fault text (start, rest, g, l, from, more) =
     left = drop-front start w.token.spelling rest (length w.token.spelling) l.is refl
     taken : take (length w.token.spelling) start ≡ w.token.spelling
     taken = ap (λ z. take (length w.token.spelling) z) l.is ∙ take-append_seam w.token.spelling rest
+
+pub is_text : (total : ℕ) (text : List ℕ)
+    → IsText total text (left total text).words (left total text).fault
+unfolding left
+is_text total text = sound total (length text) text (le_refl (length text))
+
+pub fuel : (total n : ℕ) (text : List ℕ) → length text ≤ n → left_from total n text ≡ left total text
+fuel total n text h =
+    unique total (left total text).words (left total text).fault text (is_text total text) n h
+
+pub left_is : (total : ℕ) (text : List ℕ) (ws : List Placed) (fault : Option WordError)
+    → IsText total text ws fault → left total text ≡ record { words = ws; fault = fault }
+unfolding left
+left_is total text ws fault h = unique total ws fault text h (length text) (le_refl (length text))
+
+pub one_text : (total : ℕ) (text : List ℕ) (ws vs : List Placed) (f g : Option WordError)
+    → IsText total text ws f → IsText total text vs g → (ws ≡ vs) × (f ≡ g)
+one_text total text ws vs f g h k =
+    let same : ◌≡◌ {A = Left} (record { words = ws; fault = f }) (record { words = vs; fault = g })
+        = sym (left_is total text ws f h) ∙ left_is total text vs g k in
+    (ap (λ (l : Left). l.words) same, ap (λ (l : Left). l.fault) same)
