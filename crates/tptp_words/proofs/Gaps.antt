@@ -1,9 +1,8 @@
 -- Gaps: one after another, and what they leave.
-use Rattle.std.proofs.Common.{◌≡◌, ℕ, ◌+◌, ◌≤◌, ◌<◌, Bool, true, false, ◌||◌, ◌&&◌, ◌==◌, List, [], ◌∷◌, ◌++◌, length, slice_index, refl, sym, ◌∙◌, ap, subst, arith, append_assoc, append-nil, length-append}
-use Rattle.std.proofs.Math.Nat.{le_refl}
+use Rattle.std.proofs.Common.{◌≡◌, ℕ, ◌<◌, Bool, true, false, ◌||◌, ◌&&◌, ◌==◌, List, [], ◌∷◌, ◌++◌, length, slice_index, refl, sym, ◌∙◌, ap, arith, append_assoc, append-nil}
 use Rattle.std.specs.Prelude.{Option}
 use Rattle.tptp_words.specs.declared.word.WordError.{WordError}
-use Rattle.tptp_words.specs.Text.{is_blank, not_feed, AllPass, percent, slash, star, line_feed, begins_gap, Placed, Gap, none, blank, comment, last_comment, block, IsText}
+use Rattle.tptp_words.specs.Text.{not_feed, AllPass, percent, slash, star, line_feed, begins_gap, Placed, Gap, none, blank, comment, last_comment, block, IsText}
 
 pub gap_append : {text middle rest : List ℕ} → Gap text middle → Gap middle rest → Gap text rest
 gap_append none k = k

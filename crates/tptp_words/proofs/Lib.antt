@@ -11,3 +11,5 @@ pub mod Gaps
 pub mod Lists
 pub mod OneText
 pub mod Steps
+pub mod Longest
+pub mod ReadBack

@@ -1,21 +1,17 @@
 -- The words that are found are those of the text.
-use Rattle.std.proofs.Common.{◌≡◌, ℕ, zero, suc, ◌+◌, ◌-◌, ◌≤◌, ◌<◌, ◌⊎◌, inl, inr, Bool, true, false, List, [], ◌∷◌, ◌++◌, length, take, drop, refl, sym, ◌∙◌, ap, subst, arith, append_assoc, append-nil, length-append, length-drop}
-use Rattle.std.specs.Prelude.{Option, Some, None}
+use Rattle.std.proofs.Common.{◌≡◌, ℕ, zero, suc, ◌+◌, ◌≤◌, List, [], ◌∷◌, ◌++◌, length, take, drop, refl, sym, ◌∙◌, ap, subst, arith, append_assoc, append-nil, length-append, length-drop}
 use Rattle.std.specs.List.{prefix_len}
-use Rattle.std.proofs.Math.Nat.{le_refl, le_trans}
 use Rattle.std.proofs.Math.Seq.{take-append_seam}
 use Rattle.std.proofs.lemmas.List.{take-append-drop}
 use Rattle.tptp_words.specs.declared.word.WordKind.{WordKind}
-use Rattle.tptp_words.specs.declared.word.WordError.{WordError}
-use Rattle.tptp_words.specs.declared.word.WordError.TheVariants.{BadByte, Unclosed}
 use Rattle.tptp_words.specs.declared.piece.Piece.{Piece}
 use Rattle.tptp_words.specs.declared.piece.Piece.TheVariants as piece
-use Rattle.tptp_words.specs.Text.{Token, Placed, Spells, IsLongest, not_feed, percent, slash, star, line_feed, AllPass, Gap, none, blank, comment, last_comment, block, place, Stops, IsText}
-use Rattle.tptp_words.specs.Scanning.{piece_at, Left, behind, word_at, turn, left_from, left}
+use Rattle.tptp_words.specs.Text.{Spells, IsLongest, not_feed, percent, slash, star, line_feed, AllPass, Gap, none, blank, comment, last_comment, block, IsText}
+use Rattle.tptp_words.specs.Scanning.{piece_at, Left, turn, left_from}
 use Rattle.tptp_words.proofs.Passes.{Cut, drop-front, drop_past, prefix_len-over}
 use Rattle.tptp_words.proofs.Says.{Says}
-use Rattle.tptp_words.proofs.Pieces.{IsFound, found, piece_says, begun-blank, begun-percent, begun-slash, begun-quote}
-use Rattle.tptp_words.proofs.Blocks.{block_over, block_unclosed}
+use Rattle.tptp_words.proofs.Pieces.{found, piece_says, begun-blank, begun-percent, begun-slash}
+use Rattle.tptp_words.proofs.Blocks.{block_over}
 use Rattle.tptp_words.proofs.Gaps.{gap_first}
 
 -- ---- words

@@ -1,13 +1,12 @@
 -- The mark at the front of a text is found, and it is the longest.
-use Rattle.std.proofs.Common.{◌≡◌, ℕ, zero, suc, ◌+◌, ◌≤◌, ◌⊎◌, inl, inr, Bool, true, false, ◌||◌, ◌&&◌, ◌==◌, if◌then◌else◌, List, [], ◌∷◌, ◌++◌, length, take, drop, slice_index, codes, refl, sym, ◌∙◌, ap, subst, arith, rules, lit≤, zero-le, length-take}
+use Rattle.std.proofs.Common.{◌≡◌, ℕ, zero, suc, ◌≤◌, ◌⊎◌, inl, inr, Bool, true, false, ◌||◌, ◌&&◌, ◌==◌, if◌then◌else◌, List, [], ◌∷◌, ◌++◌, length, take, drop, slice_index, codes, refl, sym, ap, subst, arith, rules, lit≤, zero-le, length-take}
 use Rattle.std.proofs.Math.Nat.{le_refl, le_trans}
 use Rattle.std.proofs.lemmas.List.{take-append-drop}
 use Rattle.std.proofs.lemmas.Bool.{eqb-true}
 use Rattle.tptp_words.specs.declared.word.WordKind.TheVariants.{Mark}
 use Rattle.tptp_words.specs.declared.piece.Piece.TheVariants as piece
-use Rattle.tptp_words.specs.Text.{OneOf, marks, Spells}
+use Rattle.tptp_words.specs.Text.{OneOf, marks}
 use Rattle.tptp_words.specs.Scanning.{less_len, is_in, mark_len, mark_of, mark_at}
-use Rattle.tptp_words.proofs.Passes.{Cut}
 use Rattle.tptp_words.proofs.NumberCuts.{Takes}
 
 abbrev pub Each : (List ℕ → Type 0) → List (List ℕ) → Type 0

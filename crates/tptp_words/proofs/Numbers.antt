@@ -1,13 +1,12 @@
 -- The number at the front of a text is found, and it is the longest.
-use Rattle.std.proofs.Common.{◌≡◌, ℕ, zero, suc, ◌+◌, ◌≤◌, ◌⊎◌, inl, inr, Bool, true, false, ◌||◌, ◌==◌, if◌then◌else◌, List, [], ◌∷◌, ◌++◌, length, drop, slice_index, codes, refl, sym, ◌∙◌, ap, subst, arith, append_assoc, append-nil, length-append}
-use Rattle.std.proofs.lemmas.Bool.{eqb-true}
+use Rattle.std.proofs.Common.{◌≡◌, ℕ, ◌+◌, ◌≤◌, ◌⊎◌, inl, inr, true, false, ◌==◌, if◌then◌else◌, List, [], ◌∷◌, ◌++◌, length, drop, refl, sym, ◌∙◌, ap, subst, arith, append_assoc, append-nil, length-append}
 use Rattle.std.proofs.lemmas.Bool.Decides.{nat_tests}
 use Rattle.std.specs.Char.{is_ascii_digit}
 use Rattle.tptp_words.specs.declared.word.WordKind.TheVariants.{Number}
 use Rattle.tptp_words.specs.declared.piece.Piece.TheVariants as piece
-use Rattle.tptp_words.specs.Text.{AllPass, some_bytes, IsDigits, IsSign, IsFraction, IsExponent, IsTail, Spells, slash, point}
-use Rattle.tptp_words.specs.Scanning.{is_sign, sign_len, digits_len, with_digits, part_len, is_e, exponent_of, exponent_len, decimal_len, tail_of, tail_len, number_of, number_with, number_at}
-use Rattle.tptp_words.proofs.Passes.{Cut, drop-front, drop-twice, prefix_len-over, cut_passing, some_length}
+use Rattle.tptp_words.specs.Text.{IsDigits, IsSign, IsExponent, IsTail, slash, point}
+use Rattle.tptp_words.specs.Scanning.{is_sign, sign_len, digits_len, with_digits, part_len, is_e, exponent_of, exponent_len, decimal_len, tail_len, number_of, number_with, number_at}
+use Rattle.tptp_words.proofs.Passes.{drop-front, drop-twice, prefix_len-over, some_length}
 
 -- ---- what is spelled is found
 

@@ -1,22 +1,21 @@
 -- A text has at most one list of words and one error, and these are found.
-use Rattle.std.proofs.Common.{◌≡◌, ℕ, zero, suc, ◌+◌, ◌-◌, ◌≤◌, ◌<◌, ◌⊎◌, inl, inr, Bool, true, false, ◌==◌, List, [], ◌∷◌, ◌++◌, length, take, drop, refl, sym, ◌∙◌, ap, subst, arith, append_assoc, append-nil, length-append, length-drop}
+use Rattle.std.proofs.Common.{◌≡◌, ℕ, zero, suc, ◌+◌, ◌≤◌, inl, inr, Bool, true, false, List, [], ◌∷◌, ◌++◌, length, take, drop, refl, sym, ◌∙◌, ap, subst, arith, length-append, length-drop}
 use Rattle.std.specs.Prelude.{Option, Some, None}
 use Rattle.std.proofs.Math.Nat.{le_refl}
 use Rattle.std.proofs.Math.Seq.{take-append_seam}
-use Rattle.tptp_words.specs.declared.word.WordKind.{WordKind}
 use Rattle.tptp_words.specs.declared.word.WordError.{WordError}
 use Rattle.tptp_words.specs.declared.word.WordError.TheVariants.{BadByte, Unclosed}
 use Rattle.tptp_words.specs.declared.piece.Piece.{Piece}
 use Rattle.tptp_words.specs.declared.piece.Piece.TheVariants as piece
-use Rattle.tptp_words.specs.Text.{Token, Placed, slash, star, is_quote, begins_gap, escaped, Spells, IsLongest, NoWord, Gap, IsStray, IsOpened, IsForbidden, IsBadByte, IsUnclosed, place, Stops, IsText}
-use Rattle.tptp_words.specs.Scanning.{block_at, quoted_from, piece_at, Left, behind, word_at, turn, left_from, left}
+use Rattle.tptp_words.specs.Text.{Token, Placed, star, is_quote, begins_gap, escaped, Spells, IsLongest, NoWord, IsOpened, IsBadByte, IsUnclosed, place, Stops, IsText}
+use Rattle.tptp_words.specs.Scanning.{piece_at, Left, behind, word_at, left_from, left}
 use Rattle.tptp_words.proofs.Passes.{Cut, drop-front}
 use Rattle.tptp_words.proofs.Says.{Says}
 use Rattle.tptp_words.proofs.Quotes.{quoted_over, bad_over}
 use Rattle.tptp_words.proofs.Blocks.{block_unclosed}
-use Rattle.tptp_words.proofs.Pieces.{IsFound, found, piece_says, begun-slash, begun-quote}
+use Rattle.tptp_words.proofs.Pieces.{found, piece_says, begun-slash, begun-quote}
 use Rattle.tptp_words.proofs.Gaps.{gap_begins}
-use Rattle.tptp_words.proofs.Lists.{cut_taken, spelled_some, sound, Leaves, turned, gap_leaves}
+use Rattle.tptp_words.proofs.Lists.{spelled_some, sound, Leaves, turned, gap_leaves}
 
 -- ---- errors
 

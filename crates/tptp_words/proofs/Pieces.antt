@@ -1,6 +1,6 @@
 -- The piece at the front of a text is what stands there.
-use Rattle.std.proofs.Common.{◌≡◌, ℕ, zero, suc, ◌+◌, ◌≤◌, ◌<◌, ◌⊎◌, inl, inr, Bool, true, false, not, cond, ◌||◌, ◌&&◌, ◌==◌, if◌then◌else◌, List, [], ◌∷◌, ◌++◌, length, drop, slice_index, refl, sym, ◌∙◌, ap, subst, arith, append_assoc, append-nil, length-append}
-use Rattle.std.proofs.lemmas.Bool.{eqb-true, and_parts}
+use Rattle.std.proofs.Common.{◌≡◌, ℕ, ◌+◌, ◌≤◌, ◌⊎◌, inl, inr, Bool, true, false, not, cond, ◌||◌, ◌&&◌, ◌==◌, if◌then◌else◌, List, [], ◌∷◌, ◌++◌, length, drop, slice_index, refl, sym, ◌∙◌, ap, subst, arith, append_assoc, append-nil, length-append}
+use Rattle.std.proofs.lemmas.Bool.{eqb-true}
 use Rattle.std.proofs.lemmas.Bool.Decides.{nat_tests}
 use Rattle.std.specs.Char.{is_ascii_lowercase, is_ascii_uppercase, is_ascii_digit}
 use Rattle.std.specs.List.{prefix_len}
@@ -8,14 +8,14 @@ use Rattle.tptp_words.specs.declared.word.WordKind.{WordKind}
 use Rattle.tptp_words.specs.declared.word.WordKind.TheVariants.{Lower, Upper, Quoted, Distinct, Dollar, System, Number, Mark}
 use Rattle.tptp_words.specs.declared.piece.Piece.{Piece}
 use Rattle.tptp_words.specs.declared.piece.Piece.TheVariants as piece
-use Rattle.tptp_words.specs.Text.{is_name, is_blank, not_feed, line_feed, percent, slash, star, single_quote, double_quote, dollar_sign, is_quote, is_printable, AllPass, some_bytes, IsNameFrom, OneOf, marks, escaped, IsDigits, IsSign, Spells, NoWord, Gap, none, blank, comment, last_comment, block, begins_gap, IsStray, IsOpened, IsForbidden, IsBadByte, IsUnclosed}
-use Rattle.tptp_words.specs.Scanning.{is_sign, is_number_start, quoted_kind, closed_at, quoted_from, block_at, dollar_at, number_at, mark_at, begun, piece_at}
-use Rattle.tptp_words.proofs.Passes.{Cut, drop-front, drop_past, prefix_len-over, cut_passing, pass_weaker, pass_append}
+use Rattle.tptp_words.specs.Text.{is_name, is_blank, not_feed, line_feed, percent, slash, star, single_quote, double_quote, dollar_sign, is_quote, is_printable, AllPass, some_bytes, OneOf, marks, escaped, IsDigits, IsSign, Spells, NoWord, Gap, none, blank, comment, last_comment, begins_gap}
+use Rattle.tptp_words.specs.Scanning.{is_sign, is_number_start, quoted_from, block_at, dollar_at, number_at, mark_at, begun, piece_at}
+use Rattle.tptp_words.proofs.Passes.{Cut, drop-front, drop_past, prefix_len-over, cut_passing}
 use Rattle.tptp_words.proofs.Numbers.{number_over}
 use Rattle.tptp_words.proofs.NumberCuts.{Takes, number_takes}
 use Rattle.tptp_words.proofs.Marks.{Each, one_of_each, mark_over, mark_takes}
-use Rattle.tptp_words.proofs.Quotes.{quoted_over, closing_is, bad_over, length-escaped-some, quoted_says}
-use Rattle.tptp_words.proofs.Blocks.{block_over, block_unclosed, block_says}
+use Rattle.tptp_words.proofs.Quotes.{quoted_over, closing_is, length-escaped-some, quoted_says}
+use Rattle.tptp_words.proofs.Blocks.{block_says}
 use Rattle.tptp_words.proofs.Names.{name_over, dollar_over, system_over, dollar_length, cut_name, dollar_takes}
 use Rattle.tptp_words.proofs.Says.{Says}
 

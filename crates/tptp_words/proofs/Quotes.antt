@@ -1,12 +1,12 @@
 -- Quoted text is found up to its closing quote, or to the byte that is not allowed in it.
-use Rattle.std.proofs.Common.{◌≡◌, ℕ, ◌+◌, ◌≤◌, ◌<◌, ◌⊎◌, inl, inr, Bool, true, false, ◌||◌, ◌&&◌, ◌==◌, if◌then◌else◌, List, [], ◌∷◌, ◌++◌, length, drop, slice_index, refl, sym, ◌∙◌, ap, subst, arith, append_assoc, append-nil, length-append, eq-eqb}
-use Rattle.std.proofs.lemmas.Bool.{eqb-true, and_parts}
+use Rattle.std.proofs.Common.{◌≡◌, ℕ, ◌+◌, ◌≤◌, inl, inr, Bool, true, false, ◌||◌, ◌&&◌, ◌==◌, if◌then◌else◌, List, [], ◌∷◌, ◌++◌, length, drop, refl, sym, ◌∙◌, ap, subst, arith, append_assoc, length-append, eq-eqb}
+use Rattle.std.proofs.lemmas.Bool.{eqb-true}
 use Rattle.std.proofs.lemmas.Bool.Decides.{nat_tests}
 use Rattle.tptp_words.specs.declared.word.WordKind.TheVariants.{Quoted, Distinct}
 use Rattle.tptp_words.specs.declared.piece.Piece.{Piece}
 use Rattle.tptp_words.specs.declared.piece.Piece.TheVariants as piece
 use Rattle.tptp_words.specs.Text.{single_quote, double_quote, backslash, is_printable, is_quote, AllPass, some_bytes, escaped, in_quotes, Spells, IsOpened, NoEscape, IsForbidden, IsBadByte}
-use Rattle.tptp_words.specs.Scanning.{quoted_kind, closed_at, quoted_from}
+use Rattle.tptp_words.specs.Scanning.{closed_at, quoted_from}
 use Rattle.tptp_words.proofs.Passes.{Cut, drop-front, pass_append}
 use Rattle.tptp_words.proofs.Says.{Says}
 

@@ -11,7 +11,7 @@ use Rattle.tptp_words.specs.declared.word.WordError.{WordError}
 use Rattle.tptp_words.specs.declared.word.WordError.TheVariants.{BadByte, Unclosed}
 use Rattle.tptp_words.specs.declared.piece.Piece.{Piece}
 use Rattle.tptp_words.specs.declared.piece.Piece.TheVariants as piece
-use Rattle.tptp_words.specs.Text.{Token, Placed, is_name, is_blank, is_printable, not_feed, is_quote}
+use Rattle.tptp_words.specs.Text.{Placed, is_name, is_blank, is_printable, not_feed, is_quote}
 use Rattle.tptp_words.specs.Text.{single_quote, backslash, percent, slash, star, dollar_sign, point}
 use Rattle.tptp_words.specs.Text.{place}
 
