@@ -28,7 +28,7 @@ block_over [] rest n h = ap (λ m. piece.Gap m) (omega arith)
 block_over (b ∷ body) rest n h =
     let parts = or_false (b == star && slice_index body 0 == slash) (has_close body) h in
     ap (λ v. if v then piece.Gap (n + 2) else block_from (n + 1) (body ++ star ∷ slash ∷ rest))
-        (closes_later b body rest parts.0)
+    (closes_later b body rest parts.0)
     ∙ block_over body rest (n + 1) parts.1
     ∙ ap (λ m. piece.Gap m) (omega arith)
 
@@ -69,10 +69,11 @@ block_ends (b ∷ text) n = go (b == star && slice_index text 0 == slash) refl (
   where
     step : Bool → Piece
     step v = if v then piece.Gap (n + 2) else block_from (n + 1) text
+
     go : (v : Bool) → (b == star && slice_index text 0 == slash) ≡ v
         → ((block_from (n + 1) text ≡ piece.Open) × (has_close text ≡ false)) ⊎ Closed text (n + 1)
         → ((block_from n (b ∷ text) ≡ piece.Open) × (has_close (b ∷ text) ≡ false))
-          ⊎ Closed (b ∷ text) n
+        ⊎ Closed (b ∷ text) n
     go true e k =
         let parts = and_parts _ _ e in
         let more = starts_with slash refl text parts.1 in
@@ -96,11 +97,12 @@ block_ends (b ∷ text) n = go (b == star && slice_index text 0 == slash) refl (
 -- behind a slash stands a block comment, or the slash begins nothing
 pub block_says : (rest : List ℕ)
     → ((block_at rest ≡ piece.Bad 0) × ((slice_index rest 0 == star) ≡ false))
-      ⊎ Says (slash ∷ rest) (block_at rest)
+    ⊎ Says (slash ∷ rest) (block_at rest)
 block_says rest = go (slice_index rest 0 == star) refl
   where
     choose : Bool → Piece
     choose v = if v then block_from 2 (drop 1 rest) else piece.Bad 0
+
     inside : (body : List ℕ) → rest ≡ star ∷ body
         → ((block_from 2 body ≡ piece.Open) × (has_close body ≡ false)) ⊎ Closed body 2
         → Says (slash ∷ rest) (block_from 2 body)
@@ -110,26 +112,27 @@ block_says rest = go (slice_index rest 0 == star) refl
         let text : List ℕ = slash ∷ star ∷ (c.body ++ star ∷ slash ∷ c.rest) in
         let is : slash ∷ rest ≡ text = ap (λ z. slash ∷ z) e ∙ ap (λ z. slash ∷ star ∷ z) c.is in
         let size : length text ≡ 4 + length c.body + length c.rest
-            = (let all = length-append c.body (star ∷ slash ∷ c.rest) in omega (arith, all)) in
+        = (let all = length-append c.body (star ∷ slash ∷ c.rest) in omega (arith, all)) in
         let total : length (slash ∷ rest) ≡ length text = ap length is in
         let two : length (c.body ++ star ∷ slash ∷ []) ≡ length c.body + 2
-            = length-append c.body (star ∷ slash ∷ []) in
+        = length-append c.body (star ∷ slash ∷ []) in
         let left : drop (2 + length c.body + 2) (slash ∷ rest) ≡ c.rest =
-            drop-front (slash ∷ rest) (slash ∷ star ∷ (c.body ++ star ∷ slash ∷ [])) c.rest
-                (2 + length c.body + 2)
-                (is ∙ ap (λ z. slash ∷ star ∷ z) (sym (append_assoc c.body (star ∷ slash ∷ []) c.rest)))
-                (omega (arith, two)) in
+        drop-front (slash ∷ rest) (slash ∷ star ∷ (c.body ++ star ∷ slash ∷ [])) c.rest
+        (2 + length c.body + 2)
+        (is ∙ ap (λ z. slash ∷ star ∷ z) (sym (append_assoc c.body (star ∷ slash ∷ []) c.rest)))
+        (omega (arith, two)) in
         let gap : Gap (slash ∷ rest) (drop (2 + length c.body + 2) (slash ∷ rest)) =
-            subst (λ z. Gap (slash ∷ rest) z) (sym left)
-                (subst (λ z. Gap z c.rest) (sym is) (block c.body c.never none)) in
+        subst (λ z. Gap (slash ∷ rest) z) (sym left)
+        (subst (λ z. Gap z c.rest) (sym is) (block c.body c.never none)) in
         subst (Says (slash ∷ rest)) (sym c.found)
-            (omega arith, omega arith, gap)
+        (omega arith, omega arith, gap)
+
     go : (v : Bool) → (slice_index rest 0 == star) ≡ v
         → ((block_at rest ≡ piece.Bad 0) × ((slice_index rest 0 == star) ≡ false))
-          ⊎ Says (slash ∷ rest) (block_at rest)
+        ⊎ Says (slash ∷ rest) (block_at rest)
     go false e = inl (ap choose e, e)
     go true e =
         let more = starts_with star refl rest e in
         let is : block_at rest ≡ block_from 2 more.0
-            = ap choose e ∙ ap (λ z. block_from 2 (drop 1 z)) more.1 in
+        = ap choose e ∙ ap (λ z. block_from 2 (drop 1 z)) more.1 in
         inr (subst (Says (slash ∷ rest)) (sym is) (inside more.0 more.1 (block_ends more.0 2)))

@@ -27,16 +27,18 @@ gap_bytes none = ([], refl)
 gap_bytes (blank {b = b} e g) =
     let k = gap_bytes g in (b ∷ k.0, ap (λ z. b ∷ z) k.1)
 gap_bytes (comment body h g) =
-    let k = gap_bytes g in
-    (percent ∷ (body ++ line_feed ∷ k.0),
-     ap (λ z. percent ∷ (body ++ line_feed ∷ z)) k.1
-     ∙ ap (λ z. percent ∷ z) (sym (append_assoc body (line_feed ∷ k.0) _)))
+    let k = gap_bytes g in (
+      percent ∷ (body ++ line_feed ∷ k.0),
+      ap (λ z. percent ∷ (body ++ line_feed ∷ z)) k.1
+          ∙ ap (λ z. percent ∷ z) (sym (append_assoc body (line_feed ∷ k.0) _)),
+    )
 gap_bytes (last_comment body h) = (percent ∷ body, ap (λ z. percent ∷ z) (sym (append-nil body)))
 gap_bytes (block body h g) =
-    let k = gap_bytes g in
-    (slash ∷ star ∷ (body ++ star ∷ slash ∷ k.0),
-     ap (λ z. slash ∷ star ∷ (body ++ star ∷ slash ∷ z)) k.1
-     ∙ ap (λ z. slash ∷ star ∷ z) (sym (append_assoc body (star ∷ slash ∷ k.0) _)))
+    let k = gap_bytes g in (
+      slash ∷ star ∷ (body ++ star ∷ slash ∷ k.0),
+      ap (λ z. slash ∷ star ∷ (body ++ star ∷ slash ∷ z)) k.1
+          ∙ ap (λ z. slash ∷ star ∷ z) (sym (append_assoc body (star ∷ slash ∷ k.0) _)),
+    )
 
 abbrev begins : List ℕ → Bool
 begins [] = false

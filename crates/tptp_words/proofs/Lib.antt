@@ -13,3 +13,4 @@ pub mod OneText
 pub mod Steps
 pub mod Longest
 pub mod ReadBack
+pub mod Spaced

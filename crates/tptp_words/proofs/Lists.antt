@@ -52,7 +52,7 @@ pub word_some : (text : List ℕ) (kind : WordKind) (n : ℕ) → Cut (Spells ki
 word_some text kind n c =
     let some = spelled_some kind c.front c.holds in
     let all : length text ≡ length c.front + length c.rest
-        = ap length c.is ∙ length-append c.front c.rest in
+    = ap length c.is ∙ length-append c.front c.rest in
     (omega (arith, some, c.size), omega (arith, some, all))
 
 -- ---- soundness
@@ -66,19 +66,26 @@ sound total (suc n) text h = go (piece_at text) refl (piece_says text) (λ more 
   where
     Holds : Left → Type 0
     Holds l = IsText total text l.words l.fault
+
     Below : Type 0
     Below = (more : List ℕ) → length more ≤ n
         → IsText total more (left_from total n more).words (left_from total n more).fault
+
     go : (p : Piece) → piece_at text ≡ p → Says text p → Below
         → Holds (turn total (left_from total n) text p)
     go piece.End e s below = (text, none, s)
     go (piece.Gap m) e s below =
         gap_first total _ _ s.2 (below (drop m text)
-            (let left = length-drop m text in omega (arith, left, s.0, s.1, h)))
+        (let left = length-drop m text in omega (arith, left, s.0, s.1, h)))
     go (piece.Word kind m) e s below =
-        let some = word_some text kind m s in
-        (text, drop m text, none, longest_of text kind m e s, refl,
-         below (drop m text) (let left = length-drop m text in omega (arith, left, some.0, some.1, h)))
+        let some = word_some text kind m s in (
+          text,
+          drop m text,
+          none,
+          longest_of text kind m e s,
+          refl,
+          below (drop m text) (let left = length-drop m text in omega (arith, left, some.0, some.1, h)),
+        )
     go (piece.Bad m) e s below = (text, none, (drop m text, s.1, refl))
     go piece.Open e s below = (text, none, (s, refl))
 
@@ -89,15 +96,15 @@ behind_line : (body text : List ℕ) (n : ℕ) → n ≡ length body + 2
 behind_line body text n e =
     let size = length-append body (line_feed ∷ []) in
     drop-front (percent ∷ (body ++ line_feed ∷ text)) (percent ∷ (body ++ line_feed ∷ [])) text n
-        (ap (λ z. percent ∷ z) (sym (append_assoc body (line_feed ∷ []) text)))
-        (omega (arith, size, e))
+    (ap (λ z. percent ∷ z) (sym (append_assoc body (line_feed ∷ []) text)))
+    (omega (arith, size, e))
 
 last_line : (body : List ℕ) → AllPass not_feed body
     → drop (2 + prefix_len not_feed body) (percent ∷ body) ≡ []
 last_line body h =
     let count = prefix_len-over not_feed body [] h in
     let same : prefix_len not_feed (body ++ []) ≡ prefix_len not_feed body
-        = ap (prefix_len not_feed) (append-nil body) in
+    = ap (prefix_len not_feed) (append-nil body) in
     drop_past (percent ∷ body) (2 + prefix_len not_feed body) (omega (arith, count, same))
 
 behind_block : (body text : List ℕ)
@@ -105,9 +112,9 @@ behind_block : (body text : List ℕ)
 behind_block body text =
     let size = length-append body (star ∷ slash ∷ []) in
     drop-front (slash ∷ star ∷ (body ++ star ∷ slash ∷ text))
-        (slash ∷ star ∷ (body ++ star ∷ slash ∷ [])) text (2 + length body + 2)
-        (ap (λ z. slash ∷ star ∷ z) (sym (append_assoc body (star ∷ slash ∷ []) text)))
-        (omega (arith, size))
+    (slash ∷ star ∷ (body ++ star ∷ slash ∷ [])) text (2 + length body + 2)
+    (ap (λ z. slash ∷ star ∷ z) (sym (append_assoc body (star ∷ slash ∷ []) text)))
+    (omega (arith, size))
 
 -- with enough turns, this is what is left
 abbrev pub Leaves : ℕ → List ℕ → Left → Type 0
@@ -126,24 +133,24 @@ pub gap_leaves : (total : ℕ) (l : Left) {text rest : List ℕ} → Gap text re
 gap_leaves total l none k = k
 gap_leaves total l (blank {b = b} {text = text} e g) k =
     turned total (b ∷ text) (piece.Gap 1) l (begun-blank b text e) (omega arith)
-        (λ n i. gap_leaves total l g k n (omega (arith, i)))
+    (λ n i. gap_leaves total l g k n (omega (arith, i)))
 gap_leaves total l (comment body {text = text} h g) k =
     let whole : List ℕ = body ++ line_feed ∷ text in
     let count : prefix_len not_feed whole ≡ length body
-        = prefix_len-over not_feed body (line_feed ∷ text) h ∙ omega arith in
+    = prefix_len-over not_feed body (line_feed ∷ text) h ∙ omega arith in
     let size = length-append body (line_feed ∷ text) in
     turned total (percent ∷ whole) (piece.Gap (2 + prefix_len not_feed whole)) l (begun-percent whole)
-        (omega arith)
-        (λ n i. ap (left_from total n) (behind_line body text (2 + prefix_len not_feed whole) (omega (arith, count)))
-            ∙ gap_leaves total l g k n (omega (arith, i, size)))
+    (omega arith)
+    (λ n i. ap (left_from total n) (behind_line body text (2 + prefix_len not_feed whole) (omega (arith, count)))
+    ∙ gap_leaves total l g k n (omega (arith, i, size)))
 gap_leaves total l (last_comment body h) k =
     let none_left : drop (2 + prefix_len not_feed body) (percent ∷ body) ≡ [] = last_line body h in
     turned total (percent ∷ body) (piece.Gap (2 + prefix_len not_feed body)) l (begun-percent body)
-        (omega arith) (λ n i. ap (left_from total n) none_left ∙ k n (omega arith))
+    (omega arith) (λ n i. ap (left_from total n) none_left ∙ k n (omega arith))
 gap_leaves total l (block body {text = text} h g) k =
     let whole : List ℕ = star ∷ (body ++ star ∷ slash ∷ text) in
     let size = length-append body (star ∷ slash ∷ text) in
     turned total (slash ∷ whole) (piece.Gap (2 + length body + 2)) l
-        (begun-slash whole ∙ block_over body text 2 h) (omega arith)
-        (λ n i. ap (left_from total n) (behind_block body text)
-            ∙ gap_leaves total l g k n (omega (arith, i, size)))
+    (begun-slash whole ∙ block_over body text 2 h) (omega arith)
+    (λ n i. ap (left_from total n) (behind_block body text)
+    ∙ gap_leaves total l g k n (omega (arith, i, size)))

@@ -118,7 +118,7 @@ lower_first b e = ap (λ v. begun_by (v || is_ascii_uppercase b) (is_signed b) b
 upper_first : (b : ℕ) → is_ascii_uppercase b ≡ true → step Begin b ≡ Name
 upper_first b e =
     ap (λ v. begun_by v (is_signed b) b)
-        (ap (λ w. is_ascii_lowercase b || w) e ∙ or-true (is_ascii_lowercase b))
+    (ap (λ w. is_ascii_lowercase b || w) e ∙ or-true (is_ascii_lowercase b))
 
 lower_name : (b : ℕ) → is_ascii_lowercase b ≡ true → is_name b ≡ true
 lower_name b e = grind (arith, nat_tests)
@@ -143,9 +143,10 @@ single_run (b ∷ bs) = go (b == single_quote) (b == backslash) refl refl (singl
   where
     rest : List ℕ
     rest = escaped single_quote bs ++ single_quote ∷ []
+
     go : (v w : Bool) → (b == single_quote) ≡ v → (b == backslash) ≡ w → run Single rest ≡ Done
         → run Single ((if v || w then backslash ∷ b ∷ escaped single_quote bs
-            else b ∷ escaped single_quote bs) ++ single_quote ∷ []) ≡ Done
+        else b ∷ escaped single_quote bs) ++ single_quote ∷ []) ≡ Done
     go true w e f k = k
     go false true e f k = k
     go false false e f k =
@@ -158,9 +159,10 @@ double_run (b ∷ bs) = go (b == double_quote) (b == backslash) refl refl (doubl
   where
     rest : List ℕ
     rest = escaped double_quote bs ++ double_quote ∷ []
+
     go : (v w : Bool) → (b == double_quote) ≡ v → (b == backslash) ≡ w → run Double rest ≡ Done
         → run Double ((if v || w then backslash ∷ b ∷ escaped double_quote bs
-            else b ∷ escaped double_quote bs) ++ double_quote ∷ []) ≡ Done
+        else b ∷ escaped double_quote bs) ++ double_quote ∷ []) ≡ Done
     go true w e f k = k
     go false true e f k = k
     go false false e f k =
@@ -193,7 +195,7 @@ exponent_pass : (s : List ℕ) → IsExponent s → AllPass is_number s
 exponent_pass s (inl e) = subst (AllPass is_number) (sym e) tt
 exponent_pass s (inr (b, sign, ds, which, i, h, e)) =
     subst (AllPass is_number) (sym e)
-        (letter b which, pass_append is_number sign ds (sign_pass sign i) (digits_pass ds h))
+    (letter b which, pass_append is_number sign ds (sign_pass sign i) (digits_pass ds h))
   where
     letter : (b : ℕ) → (b ≡ 69) ⊎ (b ≡ 101) → is_number b ≡ true
     letter b (inl k) = ap is_number k
@@ -203,7 +205,7 @@ tail_pass : (s : List ℕ) → IsTail s → AllPass is_number s
 tail_pass s (inl (ds, h, e)) = subst (AllPass is_number) (sym e) (refl, digits_pass ds h)
 tail_pass s (inr (fraction, exponent, f, x, e)) =
     subst (AllPass is_number) (sym e)
-        (pass_append is_number fraction exponent (fraction_pass fraction f) (exponent_pass exponent x))
+    (pass_append is_number fraction exponent (fraction_pass fraction f) (exponent_pass exponent x))
 
 signed_not_letter : (b : ℕ) → is_signed b ≡ true → is_letter b ≡ false
 signed_not_letter b e = grind (arith, nat_tests)

@@ -38,31 +38,76 @@ three_or_two false = (2, refl, le_refl 2)
 
 each_mark : Each MarkOver marks
 unfolding mark_at
-each_mark =
-    ((λ rest. (1, refl, le_refl 1)),
-    ((λ rest. (1, refl, le_refl 1)),
-    ((λ rest. (1, refl, le_refl 1)),
-    ((λ rest. (1, refl, le_refl 1)),
-    ((λ rest. (1, refl, le_refl 1)),
-    ((λ rest. (1, refl, le_refl 1)),
-    ((λ rest. (1, refl, le_refl 1)),
-    ((λ rest. two_or_one (slice_index rest 0 == 62)),
-    ((λ rest. (2, refl, le_refl 2)),
-    ((λ rest. two_or_one (slice_index rest 0 == 38 || slice_index rest 0 == 124)),
-    ((λ rest. (1, refl, le_refl 1)),
-    ((λ rest. (1, refl, le_refl 1)),
-    ((λ rest. (2, refl, le_refl 2)),
-    ((λ rest. three_or_two (slice_index rest 0 == 62)),
-    ((λ rest. (3, refl, le_refl 3)),
-    ((λ rest. (3, refl, le_refl 3)),
-    ((λ rest. (2, refl, le_refl 2)),
-    ((λ rest. (2, refl, le_refl 2)),
-    ((λ rest. two_or_one (slice_index rest 0 == 61 || slice_index rest 0 == 62)),
-    ((λ rest. (1, refl, le_refl 1)),
-    ((λ rest. (2, refl, le_refl 2)),
-    ((λ rest. (1, refl, le_refl 1)),
-    ((λ rest. (1, refl, le_refl 1)),
-    tt)))))))))))))))))))))))
+each_mark = (
+  (λ rest. (1, refl, le_refl 1)),
+  (
+    (λ rest. (1, refl, le_refl 1)),
+    (
+      (λ rest. (1, refl, le_refl 1)),
+      (
+        (λ rest. (1, refl, le_refl 1)),
+        (
+          (λ rest. (1, refl, le_refl 1)),
+          (
+            (λ rest. (1, refl, le_refl 1)),
+            (
+              (λ rest. (1, refl, le_refl 1)),
+              (
+                (λ rest. two_or_one (slice_index rest 0 == 62)),
+                (
+                  (λ rest. (2, refl, le_refl 2)),
+                  (
+                    (λ rest. two_or_one (slice_index rest 0 == 38 || slice_index rest 0 == 124)),
+                    (
+                      (λ rest. (1, refl, le_refl 1)),
+                      (
+                        (λ rest. (1, refl, le_refl 1)),
+                        (
+                          (λ rest. (2, refl, le_refl 2)),
+                          (
+                            (λ rest. three_or_two (slice_index rest 0 == 62)),
+                            (
+                              (λ rest. (3, refl, le_refl 3)),
+                              (
+                                (λ rest. (3, refl, le_refl 3)),
+                                (
+                                  (λ rest. (2, refl, le_refl 2)),
+                                  (
+                                    (λ rest. (2, refl, le_refl 2)),
+                                    (
+                                      (λ rest. two_or_one (slice_index rest 0 == 61 || slice_index rest 0 == 62)),
+                                      (
+                                        (λ rest. (1, refl, le_refl 1)),
+                                        (
+                                          (λ rest. (2, refl, le_refl 2)),
+                                          (
+                                            (λ rest. (1, refl, le_refl 1)),
+                                            (
+                                              (λ rest. (1, refl, le_refl 1)),
+                                              tt,
+                                            ),
+                                          ),
+                                        ),
+                                      ),
+                                    ),
+                                  ),
+                                ),
+                              ),
+                            ),
+                          ),
+                        ),
+                      ),
+                    ),
+                  ),
+                ),
+              ),
+            ),
+          ),
+        ),
+      ),
+    ),
+  ),
+)
 
 pub mark_over : (s : List ℕ) → OneOf s marks → MarkOver s
 mark_over s o = one_of_each MarkOver s marks each_mark o
@@ -90,7 +135,7 @@ single b e = one_in (codes "()[],.:&|?>*") b (search rules) e
 at_bytes : (b c d i j k n : ℕ) → b ≡ i → c ≡ j → d ≡ k → Found i j k n → Found b c d n
 at_bytes b c d i j k n e f g h =
     subst (λ z. Found z c d n) (sym e)
-        (subst (λ z. Found i z d n) (sym f) (subst (λ z. Found i j z n) (sym g) h))
+    (subst (λ z. Found i z d n) (sym f) (subst (λ z. Found i j z n) (sym g) h))
 
 less_found : (b c d : ℕ) → b ≡ 60 → Found b c d (less_len c d)
 less_found b c d e = go (c == 61) (d == 62) (c == 126) refl refl refl
@@ -131,10 +176,10 @@ mark_found b c d =
     go : (v w x y z : Bool) → (b == 60) ≡ v → (b == 33) ≡ w → (b == 61) ≡ x → (b == 126) ≡ y
         → is_in (codes "()[],.:&|?>*") b ≡ z
         → Found b c d (if v then less_len c d
-            else if w then (if c == 61 || c == 62 then 2 else 1)
-            else if x then (if c == 62 then 2 else 1)
-            else if y then (if c == 38 || c == 124 then 2 else 1)
-            else if z then 1 else 0)
+        else if w then (if c == 61 || c == 62 then 2 else 1)
+        else if x then (if c == 62 then 2 else 1)
+        else if y then (if c == 38 || c == 124 then 2 else 1)
+        else if z then 1 else 0)
     go true w x y z e f g h i = less_found b c d (eqb-true b 60 e)
     go false true x y z e f g h i =
         pair_found b c d 33 61 62 (eqb-true b 33 f) (search rules) (search rules) (search rules)
@@ -227,11 +272,11 @@ unfolding mark_at
 mark_takes [] = refl
 mark_takes (b ∷ []) =
     taken (b ∷ []) b 0 0 (mark_len b 0 0) (mark_found b 0 0) (one_within b)
-        (take_one b _ (one_within b))
+    (take_one b _ (one_within b))
 mark_takes (b ∷ c ∷ []) =
     taken (b ∷ c ∷ []) b c 0 (mark_len b c 0) (mark_found b c 0) (two_within b c)
-        (take_two b c _ (two_within b c))
+    (take_two b c _ (two_within b c))
 mark_takes (b ∷ c ∷ d ∷ text) =
     let within = three_within b c d in
     taken (b ∷ c ∷ d ∷ text) b c d (mark_len b c d) (mark_found b c d) (omega (arith, within))
-        (take_three b c d text _ within)
+    (take_three b c d text _ within)

@@ -36,7 +36,7 @@ dollar_over (b ∷ bs) rest h = ap (λ v. if v
 
 pub system_over : (name rest : List ℕ) → IsNameFrom is_ascii_lowercase name
     → dollar_at (dollar_sign ∷ (name ++ rest))
-      ≡ piece.Word System (2 + prefix_len is_name (name ++ rest))
+    ≡ piece.Word System (2 + prefix_len is_name (name ++ rest))
 system_over [] rest h = absurd h
 system_over (b ∷ bs) rest h = ap (λ v. if v
     then piece.Word System (2 + prefix_len is_name (b ∷ (bs ++ rest)))
@@ -92,7 +92,7 @@ cut_system b rest e =
 
 second_takes : (b : ℕ) (rest : List ℕ) → Takes (dollar_sign ∷ b ∷ rest)
     (if b == dollar_sign && is_ascii_lowercase (slice_index rest 0)
-     then piece.Word System (2 + prefix_len is_name rest) else piece.Bad 0)
+    then piece.Word System (2 + prefix_len is_name rest) else piece.Bad 0)
 second_takes b [] = go (b == dollar_sign)
   where
     go : (v : Bool) → Takes (dollar_sign ∷ b ∷ [])
@@ -103,10 +103,10 @@ second_takes b (c ∷ rest) = go (b == dollar_sign) (is_ascii_lowercase c) refl 
   where
     go : (v w : Bool) → (b == dollar_sign) ≡ v → is_ascii_lowercase c ≡ w
         → Takes (dollar_sign ∷ b ∷ c ∷ rest)
-            (if v && w then piece.Word System (2 + prefix_len is_name (c ∷ rest)) else piece.Bad 0)
+        (if v && w then piece.Word System (2 + prefix_len is_name (c ∷ rest)) else piece.Bad 0)
     go true true e f =
         subst (λ z. Cut (Spells System) (dollar_sign ∷ z ∷ c ∷ rest)
-            (2 + prefix_len is_name (c ∷ rest))) (sym (eqb-true b dollar_sign e)) (cut_system c rest f)
+        (2 + prefix_len is_name (c ∷ rest))) (sym (eqb-true b dollar_sign e)) (cut_system c rest f)
     go true false e f = refl
     go false w e f = refl
 
@@ -116,8 +116,8 @@ dollar_takes (b ∷ rest) = go (is_ascii_lowercase b) refl
   where
     go : (v : Bool) → is_ascii_lowercase b ≡ v → Takes (dollar_sign ∷ b ∷ rest)
         (if v then piece.Word Dollar (1 + prefix_len is_name (b ∷ rest))
-         else if b == dollar_sign && is_ascii_lowercase (slice_index rest 0)
-         then piece.Word System (2 + prefix_len is_name rest)
-         else piece.Bad 0)
+        else if b == dollar_sign && is_ascii_lowercase (slice_index rest 0)
+        then piece.Word System (2 + prefix_len is_name rest)
+        else piece.Bad 0)
     go true e = cut_dollar b rest e
     go false e = second_takes b rest

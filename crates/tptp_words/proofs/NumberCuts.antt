@@ -51,7 +51,7 @@ cut_part : (byte : ℕ) → (0 == byte) ≡ false → (text : List ℕ)
 unfolding part_len
 cut_part byte differs [] =
     subst (λ v. Cut (IsPart byte) [] (if v then with_digits 1 (digits_len []) else 0)) (sym differs)
-        (nothing (IsPart byte) [] (inl refl))
+    (nothing (IsPart byte) [] (inl refl))
 cut_part byte differs (b ∷ rest) = go (b == byte) refl
   where
     counted : (b == byte) ≡ true → (v : Bool) → (digits_len rest == 0) ≡ v
@@ -64,9 +64,13 @@ cut_part byte differs (b ∷ rest) = go (b == byte) refl
           rest = c.rest;
           is = ap (λ z. b ∷ z) c.is;
           size = omega (arith, c.size);
-          holds = inr (c.front, (c.holds, some_by_length c.front (digits_len rest) c.size f),
-                       ap (λ z. z ∷ c.front) (eqb-true b byte e));
+          holds = inr (
+            c.front,
+            (c.holds, some_by_length c.front (digits_len rest) c.size f),
+            ap (λ z. z ∷ c.front) (eqb-true b byte e),
+          );
         }
+
     go : (v : Bool) → (b == byte) ≡ v
         → Cut (IsPart byte) (b ∷ rest) (if v then with_digits 1 (digits_len rest) else 0)
     go true e = counted e (digits_len rest == 0) refl
@@ -87,11 +91,14 @@ cut_exponent (b ∷ text) = go (is_e b) refl
   where
     s : Cut IsSign text (sign_len text)
     s = cut_sign text
+
     c : Cut (AllPass is_ascii_digit) s.rest (digits_len s.rest)
     c = cut_passing is_ascii_digit s.rest
+
     left : drop (1 + sign_len text) (b ∷ text) ≡ s.rest
     left = drop-front (b ∷ text) (b ∷ s.front) s.rest (1 + sign_len text) (ap (λ z. b ∷ z) s.is)
         (omega (arith, s.size))
+
     counted : is_e b ≡ true → (v : Bool) → (digits_len s.rest == 0) ≡ v
         → Cut IsExponent (b ∷ text) (if v then 0 else 1 + sign_len text + digits_len s.rest)
     counted e true f = nothing IsExponent (b ∷ text) (inl refl)
@@ -101,9 +108,17 @@ cut_exponent (b ∷ text) = go (is_e b) refl
       is = ap (λ z. b ∷ z)
           (s.is ∙ ap (λ z. s.front ++ z) c.is ∙ sym (append_assoc s.front c.front c.rest));
       size = let all = length-append s.front c.front in omega (arith, s.size, c.size, all);
-      holds = inr (b, s.front, c.front, e_is b e, s.holds,
-                   (c.holds, some_by_length c.front (digits_len s.rest) c.size f), refl);
+      holds = inr (
+        b,
+        s.front,
+        c.front,
+        e_is b e,
+        s.holds,
+        (c.holds, some_by_length c.front (digits_len s.rest) c.size f),
+        refl,
+      );
     }
+
     go : (v : Bool) → is_e b ≡ v
         → Cut IsExponent (b ∷ text) (if v then exponent_of (sign_len text) (b ∷ text) else 0)
     go true e = subst (λ z. Cut IsExponent (b ∷ text) (with_digits (1 + sign_len text) (digits_len z)))
@@ -116,12 +131,16 @@ cut_tail text = go (part_len slash text == 0) refl
   where
     r : Cut (IsPart slash) text (part_len slash text)
     r = cut_part slash refl text
+
     f : Cut IsFraction text (part_len point text)
     f = cut_part point refl text
+
     x : Cut IsExponent f.rest (exponent_len f.rest)
     x = cut_exponent f.rest
+
     left : drop (part_len point text) text ≡ f.rest
     left = drop-front text f.front f.rest (part_len point text) f.is f.size
+
     decimal : Cut IsTail text (part_len point text + exponent_len f.rest)
     decimal = record {
       front = f.front ++ x.front;
@@ -130,11 +149,13 @@ cut_tail text = go (part_len slash text == 0) refl
       size = let all = length-append f.front x.front in omega (arith, f.size, x.size, all);
       holds = inr (f.front, x.front, f.holds, x.holds, refl);
     }
+
     ratio : (part_len slash text == 0) ≡ false → IsPart slash r.front → IsTail r.front
     ratio e (inl none) =
         let k : part_len slash text ≡ 0 = sym r.size ∙ ap length none in
         absurd (cc (e, ap (λ m. m == 0) k))
     ratio e (inr there) = inl there
+
     go : (v : Bool) → (part_len slash text == 0) ≡ v
         → Cut IsTail text (if v then decimal_len (part_len point text) text else part_len slash text)
     go true e =
@@ -154,15 +175,20 @@ number_takes text = subst (λ z. Takes text (number_of (sign_len text) (digits_l
   where
     s : Cut IsSign text (sign_len text)
     s = cut_sign text
+
     c : Cut (AllPass is_ascii_digit) s.rest (digits_len s.rest)
     c = cut_passing is_ascii_digit s.rest
+
     t : Cut IsTail c.rest (tail_len c.rest)
     t = cut_tail c.rest
+
     left : drop (sign_len text) text ≡ s.rest
     left = drop-front text s.front s.rest (sign_len text) s.is s.size
+
     behind : drop (sign_len text + digits_len s.rest) text ≡ c.rest
     behind = ap (λ n. drop n text) (omega (arith, s.size, c.size))
         ∙ drop-twice text s.front s.rest c.front c.rest s.is c.is
+
     found : (digits_len s.rest == 0) ≡ false
         → Cut (Spells Number) text (sign_len text + digits_len s.rest + tail_len c.rest)
     found e = record {
@@ -175,13 +201,21 @@ number_takes text = subst (λ z. Takes text (number_of (sign_len text) (digits_l
           let all = length-append (s.front ++ c.front) t.front in
           let two = length-append s.front c.front in
           omega (arith, s.size, c.size, t.size, all, two);
-      holds = (s.front, c.front, t.front, s.holds,
-               (c.holds, some_by_length c.front (digits_len s.rest) c.size e), t.holds, refl);
+      holds = (
+        s.front,
+        c.front,
+        t.front,
+        s.holds,
+        (c.holds, some_by_length c.front (digits_len s.rest) c.size e),
+        t.holds,
+        refl,
+      );
     }
+
     go : (v : Bool) → (digits_len s.rest == 0) ≡ v
         → Takes text (if v then piece.Bad 0 else piece.Word Number
-            (sign_len text + digits_len s.rest
-             + tail_len (drop (sign_len text + digits_len s.rest) text)))
+        (sign_len text + digits_len s.rest
+        + tail_len (drop (sign_len text + digits_len s.rest) text)))
     go true e = refl
     go false e = subst (λ z. Cut (Spells Number) text
         (sign_len text + digits_len s.rest + tail_len z)) (sym behind) (found e)

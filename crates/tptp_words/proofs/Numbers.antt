@@ -57,14 +57,14 @@ exponent_over e sign ds rest i s h =
     let text : List ℕ = e ∷ (sign ++ (ds ++ rest)) in
     let sized : sign_len (sign ++ (ds ++ rest)) ≡ length sign = sign_len-over sign ds rest s h in
     let left : drop (1 + length sign) text ≡ ds ++ rest
-        = drop-front text (e ∷ sign) (ds ++ rest) (1 + length sign) refl (omega arith) in
+    = drop-front text (e ∷ sign) (ds ++ rest) (1 + length sign) refl (omega arith) in
     let some = some_length ds h.1 in
     let found : exponent_len text ≡ 1 + length sign + (length ds + digits_len rest) =
-        ap (λ v. if v then exponent_of (sign_len (drop 1 text)) text else 0) i
-        ∙ ap (λ n. exponent_of n text) sized
-        ∙ ap (λ z. with_digits (1 + length sign) (digits_len z)) left
-        ∙ ap (λ n. with_digits (1 + length sign) n) (digits_over ds rest h)
-        ∙ with_some (1 + length sign) (length ds + digits_len rest) (omega (arith, some)) in
+    ap (λ v. if v then exponent_of (sign_len (drop 1 text)) text else 0) i
+    ∙ ap (λ n. exponent_of n text) sized
+    ∙ ap (λ z. with_digits (1 + length sign) (digits_len z)) left
+    ∙ ap (λ n. with_digits (1 + length sign) n) (digits_over ds rest h)
+    ∙ with_some (1 + length sign) (length ds + digits_len rest) (omega (arith, some)) in
     let all : length (sign ++ ds) ≡ length sign + length ds = length-append sign ds in
     omega (arith, found, all)
 
@@ -78,17 +78,17 @@ exponent_found : (e : ℕ) (sign ds rest : List ℕ) → is_e e ≡ true → IsS
     → length (e ∷ (sign ++ ds)) ≤ exponent_len (e ∷ ((sign ++ ds) ++ rest))
 exponent_found e sign ds rest i s h =
     subst (λ z. length (e ∷ (sign ++ ds)) ≤ exponent_len (e ∷ z)) (sym (append_assoc sign ds rest))
-        (exponent_over e sign ds rest i s h)
+    (exponent_over e sign ds rest i s h)
 
 exponent_there : (e : ℕ) (sign ds rest : List ℕ) → (e ≡ 69) ⊎ (e ≡ 101) → IsSign sign
     → IsDigits ds → Exponent (e ∷ (sign ++ ds)) rest
 unfolding tail_len part_len
 exponent_there e sign ds rest (inl i) s h =
     subst (λ z. Exponent (z ∷ (sign ++ ds)) rest) (sym i)
-        (record { stops = refl; found = exponent_found 69 sign ds rest refl s h; alone = omega arith })
+    (record { stops = refl; found = exponent_found 69 sign ds rest refl s h; alone = omega arith })
 exponent_there e sign ds rest (inr i) s h =
     subst (λ z. Exponent (z ∷ (sign ++ ds)) rest) (sym i)
-        (record { stops = refl; found = exponent_found 101 sign ds rest refl s h; alone = omega arith })
+    (record { stops = refl; found = exponent_found 101 sign ds rest refl s h; alone = omega arith })
 
 -- what follows a number's first digits is found, and begins with no digit
 record Follows (tail rest : List ℕ) : Type 0 where
@@ -107,7 +107,7 @@ ratio_follows ds rest h = record {
       let over = slash_over ds rest h in
       let some = not_zero (part_len slash text) (omega (arith, over)) in
       let is : tail_len text ≡ part_len slash text =
-          ap (λ v. if v then decimal_len (part_len point text) text else part_len slash text) some in
+      ap (λ v. if v then decimal_len (part_len point text) text else part_len slash text) some in
       omega (arith, over, is);
 }
 
@@ -122,19 +122,19 @@ decimal_found : (ds exponent rest : List ℕ) → IsDigits ds
     → length (point ∷ (ds ++ exponent)) ≤ tail_len (point ∷ (ds ++ (exponent ++ rest)))
 decimal_found ds exponent rest h (inl e) =
     subst (λ z. length (point ∷ (ds ++ z)) ≤ tail_len (point ∷ (ds ++ (z ++ rest)))) (sym e)
-        (let over = point_over ds rest h in
-         let is = point_is (ds ++ rest) in
-         let short : length (ds ++ []) ≡ length ds = ap length (append-nil ds) in
-         omega (arith, over, is, short))
+    (let over = point_over ds rest h in
+    let is = point_is (ds ++ rest) in
+    let short : length (ds ++ []) ≡ length ds = ap length (append-nil ds) in
+    omega (arith, over, is, short))
 decimal_found ds exponent rest h (inr x) =
     let text : List ℕ = point ∷ (ds ++ (exponent ++ rest)) in
     let over : part_len point text ≡ 1 + length ds
-        = point_over ds (exponent ++ rest) h ∙ (let stops = x.stops in omega (arith, stops)) in
+    = point_over ds (exponent ++ rest) h ∙ (let stops = x.stops in omega (arith, stops)) in
     let left : drop (part_len point text) text ≡ exponent ++ rest =
-        drop-front text (point ∷ ds) (exponent ++ rest) (part_len point text) refl (omega (arith, over)) in
+    drop-front text (point ∷ ds) (exponent ++ rest) (part_len point text) refl (omega (arith, over)) in
     let is = point_is (ds ++ (exponent ++ rest)) in
     let more : exponent_len (drop (part_len point text) text) ≡ exponent_len (exponent ++ rest)
-        = ap exponent_len left in
+    = ap exponent_len left in
     let all : length (ds ++ exponent) ≡ length ds + length exponent = length-append ds exponent in
     omega (arith, over, is, more, x.found, all)
 
@@ -160,12 +160,13 @@ tail_or_none tail rest (inr (fraction, exponent, inl e, x, is)) =
   where
     same : tail ≡ exponent
     same = is ∙ ap (λ z. z ++ exponent) e
+
     go : (exponent ≡ []) ⊎ Exponent exponent rest → (tail ≡ []) ⊎ Follows tail rest
     go (inl k) = inl (same ∙ k)
     go (inr k) = inr (subst (λ z. Follows z rest) (sym same) (exponent_follows exponent rest k))
 tail_or_none tail rest (inr (fraction, exponent, inr (ds, h, e), x, is)) =
     inr (subst (λ z. Follows z rest) (sym (is ∙ ap (λ z. z ++ exponent) e))
-        (point_follows ds exponent rest h (exponent_or_none exponent rest x)))
+    (point_follows ds exponent rest h (exponent_or_none exponent rest x)))
 
 -- a number of at least so many bytes
 abbrev pub AtLeast : List ℕ → ℕ → Type 0
@@ -178,7 +179,7 @@ unfolding number_at
 number_is text sign count s d h =
     ap (λ n. number_with n text) s ∙ ap (λ n. number_of sign n text) d
     ∙ ap (λ v. if v then piece.Bad 0
-        else piece.Word Number (sign + count + tail_len (drop (sign + count) text))) (not_zero count h)
+    else piece.Word Number (sign + count + tail_len (drop (sign + count) text))) (not_zero count h)
 
 pub number_over : (sign ds tail rest : List ℕ) → IsSign sign → IsDigits ds → IsTail tail
     → AtLeast (sign ++ (ds ++ (tail ++ rest))) (length sign + length ds + length tail)
@@ -206,10 +207,10 @@ number_over sign ds tail rest s h t = go (tail_or_none tail rest t)
     go (inl e) = (_, is, (let none : length tail ≡ 0 = ap length e in omega (arith, none)))
     go (inr f) =
         let same : length sign + count ≡ length sign + length ds
-            = (let stops = f.stops in omega (arith, stops)) in
+        = (let stops = f.stops in omega (arith, stops)) in
         let left : drop (length sign + count) text ≡ tail ++ rest =
-            ap (λ n. drop n text) same
-            ∙ drop-twice text sign (ds ++ (tail ++ rest)) ds (tail ++ rest) refl refl in
+        ap (λ n. drop n text) same
+        ∙ drop-twice text sign (ds ++ (tail ++ rest)) ds (tail ++ rest) refl refl in
         let more : tail_len (drop (length sign + count) text) ≡ tail_len (tail ++ rest)
-            = ap tail_len left in
+        = ap tail_len left in
         (_, is, omega (arith, f.found, more, f.stops))

@@ -28,13 +28,16 @@ stray_found b after q g no_word = go (piece_at (b ∷ after)) refl (piece_says (
   where
     start : List ℕ
     start = b ∷ after
+
     no_quote : {A : Type 0} (quote : ℕ) (content rest : List ℕ) → IsOpened quote content start rest → A
     no_quote quote content rest o =
         let same : b ≡ quote = cc o.is in
         absurd (cc (q, o.quotes, ap is_quote same))
+
     first : List ℕ → Bool
     first [] = false
     first (c ∷ more) = begins_gap c more
+
     go : (p : Piece) → piece_at start ≡ p → Says start p → BadFound start start
     go piece.End e s = absurd (cc s)
     go (piece.Gap m) e s =
@@ -52,28 +55,31 @@ bad_found : (start rest : List ℕ) → IsBadByte start rest → BadFound start 
 bad_found [] rest (inl (same, stray)) = absurd stray
 bad_found (b ∷ after) rest (inl (same, stray)) =
     subst (λ z. BadFound (b ∷ after) z) same (stray_found b after stray.0 stray.1 stray.2)
-bad_found start rest (inr (quote, content, o, f)) =
-    (1 + length (escaped quote content),
-     ap piece_at o.is ∙ begun-quote quote (escaped quote content ++ rest) o.quotes
-     ∙ bad_over quote content start rest o f,
-     drop-front start (quote ∷ escaped quote content) rest (1 + length (escaped quote content)) o.is
-         (omega arith),
-     (let total : length start ≡ 1 + length (escaped quote content ++ rest)
-          = ap length o.is ∙ omega arith in
-      omega (arith, total)))
+bad_found start rest (inr (quote, content, o, f)) = (
+  1 + length (escaped quote content),
+  ap piece_at o.is ∙ begun-quote quote (escaped quote content ++ rest) o.quotes
+      ∙ bad_over quote content start rest o f,
+  drop-front start (quote ∷ escaped quote content) rest (1 + length (escaped quote content)) o.is
+      (omega arith),
+  (let total : length start ≡ 1 + length (escaped quote content ++ rest)
+      = ap length o.is ∙ omega arith in
+      omega (arith, total)),
+)
 
 unclosed_found : (start : List ℕ) → IsUnclosed start
     → (piece_at start ≡ piece.Open) × (1 ≤ length start)
-unclosed_found start (inl (body, is, h)) =
-    (ap piece_at is ∙ begun-slash (star ∷ body) ∙ block_unclosed body 2 h,
-     (let total : length start ≡ 2 + length body = ap length is ∙ omega arith in
-      omega (arith, total)))
-unclosed_found start (inr (quote, content, o)) =
-    (ap piece_at o.is ∙ begun-quote quote (escaped quote content ++ []) o.quotes
-     ∙ quoted_over quote content [] 1 o.quotes o.printable,
-     (let total : length start ≡ 1 + length (escaped quote content ++ [])
-          = ap length o.is ∙ omega arith in
-      omega (arith, total)))
+unclosed_found start (inl (body, is, h)) = (
+  ap piece_at is ∙ begun-slash (star ∷ body) ∙ block_unclosed body 2 h,
+  (let total : length start ≡ 2 + length body = ap length is ∙ omega arith in
+      omega (arith, total)),
+)
+unclosed_found start (inr (quote, content, o)) = (
+  ap piece_at o.is ∙ begun-quote quote (escaped quote content ++ []) o.quotes
+      ∙ quoted_over quote content [] 1 o.quotes o.printable,
+  (let total : length start ≡ 1 + length (escaped quote content ++ [])
+      = ap length o.is ∙ omega arith in
+      omega (arith, total)),
+)
 
 stops_leaves : (total : ℕ) (start : List ℕ) (fault : Option WordError) → Stops total start fault
     → Leaves total start (record { words = []; fault = fault })
@@ -87,11 +93,11 @@ stops_leaves total (b ∷ after) None e = absurd (cc e)
 stops_leaves total start (Some (BadByte at)) (rest, bad, e) =
     let f = bad_found start rest bad in
     turned total start (piece.Bad f.0) _ f.1 f.3
-        (λ n i. ap (λ j. record { words = []; fault = Some (BadByte j) }) (ap (place total) f.2 ∙ sym e))
+    (λ n i. ap (λ j. record { words = []; fault = Some (BadByte j) }) (ap (place total) f.2 ∙ sym e))
 stops_leaves total start (Some (Unclosed at)) (unclosed, e) =
     let f = unclosed_found start unclosed in
     turned total start piece.Open _ f.0 f.1
-        (λ n i. ap (λ j. record { words = []; fault = Some (Unclosed j) }) (sym e))
+    (λ n i. ap (λ j. record { words = []; fault = Some (Unclosed j) }) (sym e))
 
 -- ---- words
 
@@ -117,21 +123,24 @@ unique total [] fault text (start, g, stops) =
     gap_leaves total _ g (stops_leaves total start fault stops)
 unique total (w ∷ ws) fault text (start, rest, g, l, from, more) =
     gap_leaves total _ g
-        (turned total start (piece.Word w.token.kind (length w.token.spelling)) _
-            (longest_found start w.token rest l) (omega (arith, some, size))
-            (λ n i.
-                ap (λ z. behind (word_at total start w.token.kind (length w.token.spelling)) (left_from total n z)) left
-                ∙ ap (λ l. behind (word_at total start w.token.kind (length w.token.spelling)) l)
-                    (unique total ws fault rest more n (omega (arith, some, size, i)))
-                ∙ ap (λ p. behind p (record { words = ws; fault = fault }))
-                    (word_is w (take (length w.token.spelling) start) (place total start) (sym taken) from)))
+    (turned total start (piece.Word w.token.kind (length w.token.spelling)) _
+    (longest_found start w.token rest l) (omega (arith, some, size))
+    (λ n i.
+    ap (λ z. behind (word_at total start w.token.kind (length w.token.spelling)) (left_from total n z)) left
+    ∙ ap (λ l. behind (word_at total start w.token.kind (length w.token.spelling)) l)
+    (unique total ws fault rest more n (omega (arith, some, size, i)))
+    ∙ ap (λ p. behind p (record { words = ws; fault = fault }))
+    (word_is w (take (length w.token.spelling) start) (place total start) (sym taken) from)))
   where
     some : 1 ≤ length w.token.spelling
     some = spelled_some w.token.kind w.token.spelling l.spells
+
     size : length start ≡ length w.token.spelling + length rest
     size = ap length l.is ∙ length-append w.token.spelling rest
+
     left : drop (length w.token.spelling) start ≡ rest
     left = drop-front start w.token.spelling rest (length w.token.spelling) l.is refl
+
     taken : take (length w.token.spelling) start ≡ w.token.spelling
     taken = ap (λ z. take (length w.token.spelling) z) l.is ∙ take-append_seam w.token.spelling rest
 
@@ -153,5 +162,5 @@ pub one_text : (total : ℕ) (text : List ℕ) (ws vs : List Placed) (f g : Opti
     → IsText total text ws f → IsText total text vs g → (ws ≡ vs) × (f ≡ g)
 one_text total text ws vs f g h k =
     let same : ◌≡◌ {A = Left} (record { words = ws; fault = f }) (record { words = vs; fault = g })
-        = sym (left_is total text ws f h) ∙ left_is total text vs g k in
+    = sym (left_is total text ws f h) ∙ left_is total text vs g k in
     (ap (λ (l : Left). l.words) same, ap (λ (l : Left). l.fault) same)

@@ -51,8 +51,8 @@ pub drop-twice : (text first rest second last : List ℕ) → text ≡ first ++ 
     → rest ≡ second ++ last → drop (length first + length second) text ≡ last
 drop-twice text first rest second last e f =
     drop-front text (first ++ second) last (length first + length second)
-        (e ∙ ap (λ z. first ++ z) f ∙ sym (append_assoc first second last))
-        (length-append first second)
+    (e ∙ ap (λ z. first ++ z) f ∙ sym (append_assoc first second last))
+    (length-append first second)
 
 pub pass_weaker : (p q : ℕ → Bool) → ((b : ℕ) → p b ≡ true → q b ≡ true) → (bs : List ℕ)
     → AllPass p bs → AllPass q bs

@@ -38,29 +38,31 @@ escape_is q n text h =
 pub quoted_over : (q : ℕ) (content rest : List ℕ) (n : ℕ) → is_quote q ≡ true
     → AllPass is_printable content
     → quoted_from q n false (escaped q content ++ rest)
-      ≡ quoted_from q (n + length (escaped q content)) false rest
+    ≡ quoted_from q (n + length (escaped q content)) false rest
 quoted_over q [] rest n h p = ap (λ m. quoted_from q m false rest) (omega arith)
 quoted_over q (b ∷ content) rest n h p =
     go (b == q) (b == backslash) refl refl (λ m. quoted_over q content rest m h p.1)
   where
     more : List ℕ
     more = escaped q content ++ rest
+
     behind_backslash : (b == q || b == backslash) ≡ true
         → ((m : ℕ) → quoted_from q m false more
-            ≡ quoted_from q (m + length (escaped q content)) false rest)
+        ≡ quoted_from q (m + length (escaped q content)) false rest)
         → quoted_from q n false (backslash ∷ b ∷ more)
-          ≡ quoted_from q (n + length (backslash ∷ b ∷ escaped q content)) false rest
+        ≡ quoted_from q (n + length (backslash ∷ b ∷ escaped q content)) false rest
     behind_backslash e k =
         escape_is q n (b ∷ more) h
         ∙ ap (λ z. if z then quoted_from q (n + 2) false more else piece.Bad n) e
         ∙ k (n + 2) ∙ ap (λ m. quoted_from q m false rest) (omega arith)
+
     go : (v w : Bool) → (b == q) ≡ v → (b == backslash) ≡ w
         → ((m : ℕ) → quoted_from q m false more
-            ≡ quoted_from q (m + length (escaped q content)) false rest)
+        ≡ quoted_from q (m + length (escaped q content)) false rest)
         → quoted_from q n false ((if v || w then backslash ∷ b ∷ escaped q content
-              else b ∷ escaped q content) ++ rest)
-          ≡ quoted_from q (n + length (if v || w then backslash ∷ b ∷ escaped q content
-              else b ∷ escaped q content)) false rest
+        else b ∷ escaped q content) ++ rest)
+        ≡ quoted_from q (n + length (if v || w then backslash ∷ b ∷ escaped q content
+        else b ∷ escaped q content)) false rest
     go true w e f k = behind_backslash (ap (λ z. z || b == backslash) e) k
     go false true e f k = behind_backslash (ap (λ z. z || b == backslash) e ∙ f) k
     go false false e f k =
@@ -98,10 +100,10 @@ forbidden_is : (q : ℕ) (content rest : List ℕ) (n : ℕ) → is_quote q ≡ 
 forbidden_is q content [] n h size f = absurd f
 forbidden_is q content (b ∷ after) n h size (inl f) =
     inside_is q n b after false false false (not_that is_printable b q f (quote_printable q h))
-        (not_that is_printable b backslash f refl) f
+    (not_that is_printable b backslash f refl) f
 forbidden_is q content (b ∷ after) n h size (inr (inl (e, f))) =
     subst (λ z. quoted_from q n false (z ∷ after) ≡ piece.Bad n) (sym e)
-        (escape_is q n after h ∙ ends after f)
+    (escape_is q n after h ∙ ends after f)
   where
     ends : (after : List ℕ) → NoEscape q after → quoted_from q n true after ≡ piece.Bad n
     ends [] f = refl
@@ -109,9 +111,9 @@ forbidden_is q content (b ∷ after) n h size (inr (inl (e, f))) =
 forbidden_is q content (b ∷ after) n h size (inr (inr (e, f, empty))) =
     let one : n ≡ 1 = size ∙ ap (λ z. 1 + length (escaped q z)) empty in
     let first : quoted_from q n false (b ∷ after) ≡ quoted_from 39 1 false (39 ∷ after) =
-        ap (λ z. quoted_from q n false (z ∷ after)) e
-        ∙ ap (λ z. quoted_from z n false (39 ∷ after)) f
-        ∙ ap (λ m. quoted_from 39 m false (39 ∷ after)) one in
+    ap (λ z. quoted_from q n false (z ∷ after)) e
+    ∙ ap (λ z. quoted_from z n false (39 ∷ after)) f
+    ∙ ap (λ m. quoted_from 39 m false (39 ∷ after)) one in
     first ∙ ap (λ m. piece.Bad m) (sym one)
 
 -- the error of quoted text is found
@@ -130,7 +132,7 @@ escaped-append q (b ∷ u) v = go (b == q || b == backslash) (escaped-append q u
   where
     go : (w : Bool) → escaped q (u ++ v) ≡ escaped q u ++ escaped q v
         → (if w then backslash ∷ b ∷ escaped q (u ++ v) else b ∷ escaped q (u ++ v))
-          ≡ (if w then backslash ∷ b ∷ escaped q u else b ∷ escaped q u) ++ escaped q v
+        ≡ (if w then backslash ∷ b ∷ escaped q u else b ∷ escaped q u) ++ escaped q v
     go true k = ap (λ z. backslash ∷ b ∷ z) k
     go false k = ap (λ z. b ∷ z) k
 
@@ -154,9 +156,10 @@ bad_here : {q : ℕ} {content start : List ℕ} {b : ℕ} {text : List ℕ} {n :
 bad_here {q} {content} {start} {b} {text} {n} r f =
     let total : length start ≡ length (q ∷ (escaped q content ++ b ∷ text)) = ap length r.opened.is in
     let all : length (escaped q content ++ b ∷ text) ≡ length (escaped q content) + length (b ∷ text)
-        = length-append (escaped q content) (b ∷ text) in
-    (omega (arith, total, all, r.size),
-     subst (λ z. IsBadByte start z) (sym (rest_there r)) (inr (q, content, r.opened, f)))
+    = length-append (escaped q content) (b ∷ text) in (
+      omega (arith, total, all, r.size),
+      subst (λ z. IsBadByte start z) (sym (rest_there r)) (inr (q, content, r.opened, f)),
+    )
 
 -- one byte more
 goes_on : {q : ℕ} {content start text rest : List ℕ} {n : ℕ} (c : ℕ) (bytes : List ℕ)
@@ -164,9 +167,9 @@ goes_on : {q : ℕ} {content start text rest : List ℕ} {n : ℕ} (c : ℕ) (by
     → is_printable c ≡ true → Reads q (content ++ c ∷ []) start rest (n + length bytes)
 goes_on {q} {content} {start} {text} {rest} {n} c bytes r e f p =
     let all : escaped q (content ++ c ∷ []) ≡ escaped q content ++ bytes
-        = escaped-append q content (c ∷ []) ∙ ap (λ z. escaped q content ++ z) e in
+    = escaped-append q content (c ∷ []) ∙ ap (λ z. escaped q content ++ z) e in
     let size : length (escaped q (content ++ c ∷ [])) ≡ length (escaped q content) + length bytes
-        = ap length all ∙ length-append (escaped q content) bytes in
+    = ap length all ∙ length-append (escaped q content) bytes in
     record {
       opened = record {
         quotes = r.opened.quotes;
@@ -202,9 +205,10 @@ says_closed q content start text n r = go (q == single_quote) (n + 1 == 2) refl 
   where
     at : ℕ → Type 0
     at m = Says start (piece.Bad m)
+
     go : (v w : Bool) → (q == single_quote) ≡ v → (n + 1 == 2) ≡ w
         → Says start (if v && w then piece.Bad 1
-            else piece.Word (if v then Quoted else Distinct) (n + 1))
+        else piece.Word (if v then Quoted else Distinct) (n + 1))
     go true true e f =
         let quote : q ≡ single_quote = eqb-true q single_quote e in
         let two : n + 1 ≡ 2 = eqb-true (n + 1) 2 f in
@@ -214,14 +218,19 @@ says_closed q content start text n r = go (q == single_quote) (n + 1 == 2) refl 
     go true false e f =
         let quote : q ≡ single_quote = eqb-true q single_quote e in
         let size : n ≡ 1 + length (escaped single_quote content)
-            = r.size ∙ ap (λ z. 1 + length (escaped z content)) quote in
-        closed_front (Spells Quoted) r
-            (content, r.opened.printable, some_content content n size f,
-             ap (λ z. in_quotes z content) quote)
+        = r.size ∙ ap (λ z. 1 + length (escaped z content)) quote in
+        closed_front (Spells Quoted) r (
+          content,
+          r.opened.printable,
+          some_content content n size f,
+          ap (λ z. in_quotes z content) quote,
+        )
     go false w e f =
-        closed_front (Spells Distinct) r
-            (content, r.opened.printable,
-             ap (λ z. in_quotes z content) (quote_is q r.opened.quotes e))
+        closed_front (Spells Distinct) r (
+          content,
+          r.opened.printable,
+          ap (λ z. in_quotes z content) (quote_is q r.opened.quotes e),
+        )
 
 escapes : (q c : ℕ) → (c == q || c == backslash) ≡ true
     → escaped q (c ∷ []) ≡ backslash ∷ c ∷ []
@@ -241,8 +250,8 @@ mutual
   says_inside [] q content start n r = inr (q, content, r.opened)
   says_inside (b ∷ text) q content start n r =
       subst (Says start) (sym (inside_is q n b text (b == q) (b == backslash) (is_printable b) refl refl refl))
-          (go (b == q) (b == backslash) (is_printable b) refl refl refl
-              (λ c m k. says_inside text q c start m k) (λ k. says_escaped text q content start n k))
+      (go (b == q) (b == backslash) (is_printable b) refl refl refl
+      (λ c m k. says_inside text q c start m k) (λ k. says_escaped text q content start n k))
     where
       go : (v w x : Bool) → (b == q) ≡ v → (b == backslash) ≡ w → is_printable b ≡ x
           → ((c : List ℕ) (m : ℕ) → Reads q c start text m → Says start (quoted_from q m false text))
@@ -250,15 +259,15 @@ mutual
           → Says start (inside q n b text v w x)
       go true w x e f g rec behind =
           says_closed q content start text n
-              (subst (λ z. Reads q content start (z ∷ text) n) (eqb-true b q e) r)
+          (subst (λ z. Reads q content start (z ∷ text) n) (eqb-true b q e) r)
       go false true x e f g rec behind =
           behind (subst (λ z. Reads q content start (z ∷ text) n) (eqb-true b backslash f) r)
       go false false true e f g rec behind =
           rec (content ++ b ∷ []) (n + 1)
-              (goes_on b (b ∷ []) r
-                  (ap (λ v. if v || b == backslash then backslash ∷ b ∷ [] else b ∷ []) e
-                   ∙ ap (λ v. if v then backslash ∷ b ∷ [] else b ∷ []) f)
-                  refl g)
+          (goes_on b (b ∷ []) r
+          (ap (λ v. if v || b == backslash then backslash ∷ b ∷ [] else b ∷ []) e
+          ∙ ap (λ v. if v then backslash ∷ b ∷ [] else b ∷ []) f)
+          refl g)
       go false false false e f g rec behind = bad_here r (inl g)
 
   says_escaped : (text : List ℕ) (q : ℕ) (content start : List ℕ) (n : ℕ)
@@ -266,15 +275,15 @@ mutual
   says_escaped [] q content start n r = bad_here r (inr (inl (refl, tt)))
   says_escaped (c ∷ text) q content start n r =
       go (c == q || c == backslash) refl
-          (λ k. says_inside text q (content ++ c ∷ []) start (n + 2) k)
+      (λ k. says_inside text q (content ++ c ∷ []) start (n + 2) k)
     where
       go : (v : Bool) → (c == q || c == backslash) ≡ v
           → (Reads q (content ++ c ∷ []) start text (n + 2)
-              → Says start (quoted_from q (n + 2) false text))
+          → Says start (quoted_from q (n + 2) false text))
           → Says start (if v then quoted_from q (n + 2) false text else piece.Bad n)
       go true e rec =
           rec (goes_on c (backslash ∷ c ∷ []) r (escapes q c e) refl
-              (escape_printable q c r.opened.quotes e))
+          (escape_printable q c r.opened.quotes e))
       go false e rec = bad_here r (inr (inl (refl, e)))
 
 -- behind a quote

@@ -1,19 +1,13 @@
 -- Words that are written with blanks are read back.
-use Rattle.std.proofs.Common.{◌≡◌, ℕ, ◌+◌, ◌-◌, ◌≤◌, ◌⊎◌, inl, inr, Bool, true, false, not, ◌||◌, ◌&&◌, ◌==◌, List, [], ◌∷◌, ◌++◌, length, refl, sym, ◌∙◌, ap, subst, arith, append_assoc, append-nil, length-append}
+use Rattle.std.proofs.Common.{◌≡◌, ℕ, ◌+◌, ◌≤◌, Bool, true, not, List, [], ◌∷◌, ◌++◌, length, refl, ◌∙◌, ap, subst, arith, append_assoc, length-append}
 use Rattle.std.specs.Prelude.{Option, None}
-use Rattle.std.proofs.lemmas.Bool.{eqb-true, and_parts}
-use Rattle.std.proofs.lemmas.Bool.Decides.{nat_tests}
-use Rattle.tptp_words.specs.declared.word.WordKind.{WordKind}
-use Rattle.tptp_words.specs.declared.word.WordKind.TheVariants.{Lower, Upper, Quoted, Distinct, Dollar, System, Number, Mark}
 use Rattle.tptp_words.specs.declared.word.WordError.{WordError}
-use Rattle.tptp_words.specs.Text.{Token, Placed, is_name, is_blank, AllPass, some_bytes, OneOf, marks, Spells, IsLongest, Gap, none, blank, IsText}
+use Rattle.tptp_words.specs.Text.{Token, Placed, is_blank, AllPass, some_bytes, Spells, Gap, none, blank, IsText}
 use Rattle.tptp_words.specs.Layout.{written, placed_from}
-use Rattle.tptp_words.specs.Laws.{IsBlankLayout, Stand, Spaced, IsReadBack}
-use Rattle.tptp_words.proofs.Passes.{pass_append}
-use Rattle.tptp_words.proofs.Marks.{Each, one_of_each}
+use Rattle.tptp_words.specs.Laws.{Stand, IsReadBack}
 use Rattle.tptp_words.proofs.Gaps.{gap_first}
 use Rattle.tptp_words.proofs.Lists.{spelled_some}
-use Rattle.tptp_words.proofs.Longest.{State, Begin, Name, Digits, Money, Single, Double, SingleEscape, DoubleEscape, Bang, Tilde, Equals, Less, Done, Dead, is_number, or_die, step, run, lives, Ends, lower_run, upper_run, quoted_run, distinct_run, dollar_run, system_run, number_ends, longest}
+use Rattle.tptp_words.proofs.Longest.{State, Begin, Name, Digits, Money, Single, Double, SingleEscape, DoubleEscape, Bang, Tilde, Equals, Less, Done, Dead, step, run, lives, Ends, longest}
 
 pub blanks : (g : List ℕ) {rest : List ℕ} → AllPass is_blank g → Gap (g ++ rest) rest
 blanks [] h = none
@@ -34,18 +28,24 @@ module _ (before after : Token → List ℕ) (blank_before : (w : Token) → All
       → total ≡ at + length (written before after ws)
       → IsText total (written before after ws) (placed_from before after at ws) None
   stand_reads total at [] h size = ([], none, refl)
-  stand_reads total at (w ∷ ws) h size =
-      (w.spelling ++ rest_of w ws, rest_of w ws, blanks (before w) (blank_before w), h.0,
-       omega (arith, size, whole, word),
-       blanks_first total (after w) (written before after ws) _ None (blank_after w)
-           (stand_reads total (at + length (before w) + length w.spelling + length (after w)) ws h.1
-               (omega (arith, size, whole, word, rest))))
+  stand_reads total at (w ∷ ws) h size = (
+    w.spelling ++ rest_of w ws,
+    rest_of w ws,
+    blanks (before w) (blank_before w),
+    h.0,
+    omega (arith, size, whole, word),
+    blanks_first total (after w) (written before after ws) _ None (blank_after w)
+        (stand_reads total (at + length (before w) + length w.spelling + length (after w)) ws h.1
+        (omega (arith, size, whole, word, rest))),
+  )
     where
       whole : length (written before after (w ∷ ws))
           ≡ length (before w) + length (w.spelling ++ rest_of w ws)
       whole = length-append (before w) (w.spelling ++ rest_of w ws)
+
       word : length (w.spelling ++ rest_of w ws) ≡ length w.spelling + length (rest_of w ws)
       word = length-append w.spelling (rest_of w ws)
+
       rest : length (rest_of w ws) ≡ length (after w) + length (written before after ws)
       rest = length-append (after w) (written before after ws)
 
@@ -120,13 +120,13 @@ module _ (before after : Token → List ℕ) (blank_before : (w : Token) → All
 
   -- what ends a word in front of its neighbour, with the neighbour's text behind it
   moved : (w v : Token) (ws : List Token) → Ends (run Begin w.spelling)
-          ((after w ++ (before v ++ v.spelling)) ++ (after v ++ written before after ws))
+      ((after w ++ (before v ++ v.spelling)) ++ (after v ++ written before after ws))
       → Ends (run Begin w.spelling) (after w ++ written before after (v ∷ ws))
   moved w v ws h =
       subst (Ends (run Begin w.spelling))
-          (append_assoc (after w) (before v ++ v.spelling) (rest_of v ws)
-           ∙ ap (λ z. after w ++ z) (append_assoc (before v) v.spelling (rest_of v ws)))
-          h
+      (append_assoc (after w) (before v ++ v.spelling) (rest_of v ws)
+      ∙ ap (λ z. after w ++ z) (append_assoc (before v) v.spelling (rest_of v ws)))
+      h
 
   all_meet : (ws : List Token) → AllMeet ws → Joined ws
   all_meet [] h = tt
@@ -137,9 +137,12 @@ module _ (before after : Token → List ℕ) (blank_before : (w : Token) → All
       last q (b ∷ u) h = died (step q b) h
   all_meet (w ∷ v ∷ ws) h =
       let some = some_behind (after w) (before v ++ v.spelling)
-          (some_behind (before v) v.spelling (some_spelled v h.2.0)) in
-      (h.0, moved w v ws (ends_before (run Begin w.spelling) (after w ++ (before v ++ v.spelling))
-          (rest_of v ws) some h.1), all_meet (v ∷ ws) h.2)
+      (some_behind (before v) v.spelling (some_spelled v h.2.0)) in (
+        h.0,
+        moved w v ws (ends_before (run Begin w.spelling) (after w ++ (before v ++ v.spelling))
+            (rest_of v ws) some h.1),
+        all_meet (v ∷ ws) h.2,
+      )
 
   -- words are read back where each is spelled and each neighbour passes the test
   pub reads_back : (ws : List Token) → AllMeet ws → IsReadBack before after ws

@@ -27,8 +27,10 @@ left-turn total (b ∷ rest) = go (piece_at (b ∷ rest)) (piece_says (b ∷ res
   where
     text : List ℕ
     text = b ∷ rest
+
     n : ℕ
     n = length rest
+
     go : (p : Piece) → Says text p → turn total (left_from total n) text p ≡ turn total (left total) text p
     go piece.End s = refl
     go (piece.Gap m) s =
@@ -51,25 +53,33 @@ spelled whole text before (w ∷ ws) fault is (start, rest, g, l, from, more) =
   where
     skipped : (bytes : List ℕ) × (text ≡ bytes ++ start)
     skipped = gap_bytes g
+
     whole_start : whole ≡ (before ++ skipped.0) ++ start
     whole_start = is ∙ ap (λ z. before ++ z) skipped.1 ∙ sym (append_assoc before skipped.0 start)
+
     whole_rest : whole ≡ (before ++ (skipped.0 ++ w.token.spelling)) ++ rest
     whole_rest = whole_start ∙ ap (λ z. (before ++ skipped.0) ++ z) l.is
         ∙ sym (append_assoc (before ++ skipped.0) w.token.spelling rest)
         ∙ ap (λ z. z ++ rest) (append_assoc before skipped.0 w.token.spelling)
+
     size : length whole ≡ length (before ++ skipped.0) + length start
     size = ap length whole_start ∙ length-append (before ++ skipped.0) start
+
     there : w.from ≡ length (before ++ skipped.0)
     there = omega (arith, from, size)
+
     left : drop w.from whole ≡ start
     left = ap (λ i. drop i whole) there
         ∙ drop-front whole (before ++ skipped.0) start (length (before ++ skipped.0)) whole_start refl
+
     count : (w.from + length w.token.spelling) - w.from ≡ length w.token.spelling
     count = omega arith
+
     taken : take ((w.from + length w.token.spelling) - w.from) (drop w.from whole) ≡ w.token.spelling
     taken = ap (λ m. take m (drop w.from whole)) count
         ∙ ap (λ z. take (length w.token.spelling) z) (left ∙ l.is)
         ∙ take-append_seam w.token.spelling rest
+
     word : w ≡ placed_in whole (span w)
     word = ap (λ s. record { token = record { kind = w.token.kind; spelling = s }; from = w.from }) (sym taken)
 
@@ -85,14 +95,15 @@ module _ (total : ℕ) (text : List ℕ) (old : Left) (is : old ≡ left total t
   pub word_step : (kind : WordKind) (m : ℕ) (rest : List ℕ) → piece_at text ≡ piece.Word kind m
       → rest ≡ drop m text
       → (p : Placed)
-        × (◌≡◌ {A = Word} (record { kind = kind; from = total - length text; to = total - length text + m }) (span p))
-        × (old ≡ behind p (left total rest))
+      × (◌≡◌ {A = Word} (record { kind = kind; from = total - length text; to = total - length text + m }) (span p))
+      × (old ≡ behind p (left total rest))
   word_step kind m rest e left_is =
       let c : Cut (Spells kind) text m = subst (Says text) e (piece_says text) in
-      let size : m ≡ length (take m text) = sym (ap length (cut_taken c) ∙ c.size) in
-      (word_at total text kind m,
-       ap (λ n. record { kind = kind; from = total - length text; to = total - length text + n }) size,
-       turned (piece.Word kind m) e ∙ ap (λ z. behind (word_at total text kind m) (left total z)) (sym left_is))
+      let size : m ≡ length (take m text) = sym (ap length (cut_taken c) ∙ c.size) in (
+        word_at total text kind m,
+        ap (λ n. record { kind = kind; from = total - length text; to = total - length text + n }) size,
+        turned (piece.Word kind m) e ∙ ap (λ z. behind (word_at total text kind m) (left total z)) (sym left_is),
+      )
 
   pub end_step : piece_at text ≡ piece.End → (old.words ≡ []) × (old.fault ≡ None)
   end_step e =
@@ -125,7 +136,7 @@ pub word_within : (text : List ℕ) (kind : WordKind) (m : ℕ) → piece_at tex
 word_within text kind m e =
     let c : Cut (Spells kind) text m = subst (Says text) e (piece_says text) in
     let all : length text ≡ length c.front + length c.rest
-        = ap length c.is ∙ length-append c.front c.rest in
+    = ap length c.is ∙ length-append c.front c.rest in
     omega (arith, all, c.size)
 
 pub bad_within : (text : List ℕ) (m : ℕ) → piece_at text ≡ piece.Bad m → m ≤ length text

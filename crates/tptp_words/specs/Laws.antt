@@ -1,5 +1,5 @@
 -- What the definitions of words and texts promise.
-use Rattle.std.specs.Prelude.{◌≡◌, ℕ, Bool, true, List, [], ◌∷◌, ◌++◌, length, Option, None}
+use Rattle.std.specs.Prelude.{◌≡◌, ℕ, true, List, [], ◌∷◌, ◌++◌, length, Option, None}
 use Rattle.tptp_words.specs.declared.word.WordError.{WordError}
 use Rattle.tptp_words.specs.Text.{Token, Placed, is_blank, AllPass, some_bytes, Spells, IsLongest}
 use Rattle.tptp_words.specs.Text.{IsText}
@@ -20,7 +20,7 @@ abbrev pub Stand : (Token → List ℕ) → (Token → List ℕ) → List Token 
 Stand before after [] = Unit {0}
 Stand before after (w ∷ ws) =
     IsLongest (w.spelling ++ (after w ++ written before after ws)) w
-        (after w ++ written before after ws)
+    (after w ++ written before after ws)
     × Stand before after ws
 
 -- each word is spelled as its kind wants it, and at least one blank stands between neighbours
@@ -35,7 +35,7 @@ Spaced before after (w ∷ v ∷ ws) =
 abbrev pub IsReadBack : (Token → List ℕ) → (Token → List ℕ) → List Token → Type 0
 IsReadBack before after ws =
     IsText (length (written before after ws)) (written before after ws)
-        (placed_from before after 0 ws) None
+    (placed_from before after 0 ws) None
 
 -- words that are written with blanks between them are read back
 abbrev pub WrittenWordsAreRead : Type 0

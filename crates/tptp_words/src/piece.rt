@@ -31,7 +31,25 @@ fn mark_len(first: u8, second: u8, third: u8) -> usize
         (b'<', b'=', b'>') | (b'<', b'~', b'>') => 3,
         (b'<', b'=', _) | (b'!', b'=' | b'>', _) | (b'=', b'>', _) | (b'~', b'&' | b'|', _) => 2,
         (b'<', _, _) => 0,
-        (b'(' | b')' | b'[' | b']' | b',' | b'.' | b':' | b'=' | b'~' | b'&' | b'|' | b'!' | b'?' | b'>' | b'*', _, _) => 1,
+        (
+            b'('
+            | b')'
+            | b'['
+            | b']'
+            | b','
+            | b'.'
+            | b':'
+            | b'='
+            | b'~'
+            | b'&'
+            | b'|'
+            | b'!'
+            | b'?'
+            | b'>'
+            | b'*',
+            _,
+            _,
+        ) => 1,
         _ => 0,
     }
 }
@@ -51,7 +69,9 @@ fn name_len(text: &[u8]) -> usize
     ensures exact { result ≡ prefix_len lexical.is_name text.now }
     ensures within { result ≤ length text.now }
 {
-    text.iter().take_while(|byte| byte.is_ascii_alphanumeric() || **byte == b'_').count()
+    text.iter()
+        .take_while(|byte| byte.is_ascii_alphanumeric() || **byte == b'_')
+        .count()
 }
 
 fn line_len(text: &[u8]) -> usize
