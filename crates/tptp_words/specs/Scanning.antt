@@ -1,19 +1,20 @@
--- How a text is gone through from its front. That this finds the words of the text is a law.
+-- How a text is gone through from its front. This need not be believed: that it finds the words of
+-- the text is proved.
 use Rattle.std.specs.Prelude.{ℕ, zero, suc, ◌+◌, Bool, true, false, ◌||◌, ◌&&◌, ◌==◌}
 use Rattle.std.specs.Prelude.{if◌then◌else◌, List, [], ◌∷◌, length, take, drop, slice_index, codes}
-use Rattle.std.specs.Prelude.{Option, Some, None}
+use Rattle.std.specs.Prelude.{Some, None}
 use Rattle.std.specs.List.{prefix_len}
 use Rattle.std.specs.Char.{is_ascii_lowercase, is_ascii_uppercase, is_ascii_digit}
 use Rattle.tptp_words.specs.declared.word.WordKind.{WordKind}
 use Rattle.tptp_words.specs.declared.word.WordKind.TheVariants.{Lower, Upper, Quoted, Distinct}
 use Rattle.tptp_words.specs.declared.word.WordKind.TheVariants.{Dollar, System, Number, Mark}
-use Rattle.tptp_words.specs.declared.word.WordError.{WordError}
 use Rattle.tptp_words.specs.declared.word.WordError.TheVariants.{BadByte, Unclosed}
 use Rattle.tptp_words.specs.declared.piece.Piece.{Piece}
 use Rattle.tptp_words.specs.declared.piece.Piece.TheVariants as piece
 use Rattle.tptp_words.specs.Text.{Placed, is_name, is_blank, is_printable, not_feed, is_quote}
 use Rattle.tptp_words.specs.Text.{single_quote, backslash, percent, slash, star, dollar_sign, point}
 use Rattle.tptp_words.specs.Text.{place}
+pub use Rattle.tptp_words.specs.Steps.{Left, behind}
 
 -- ---- one piece
 
@@ -153,14 +154,6 @@ piece_at [] = piece.End
 piece_at (b ∷ rest) = begun b rest
 
 -- ---- a whole text
-
--- the words that are left, and then why there is no further one
-pub record Left : Type 0 where
-  pub words : List Placed
-  pub fault : Option WordError
-
-abbrev pub behind : Placed → Left → Left
-behind w l = record { words = w ∷ l.words; fault = l.fault }
 
 abbrev pub word_at : ℕ → List ℕ → WordKind → ℕ → Placed
 word_at total text kind n =
