@@ -3,8 +3,8 @@ use Rattle.std.proofs.Common.{◌≡◌, ℕ, ◌+◌, ◌≤◌, Bool, true, no
 use Rattle.std.proofs.Common.{◌∙◌, ap, subst, arith, append_assoc, length-append}
 use Rattle.std.specs.Prelude.{Option, None}
 use Rattle.tptp_words.specs.declared.word.WordError.{WordError}
-use Rattle.tptp_words.specs.Text.{Token, Placed, is_blank, AllPass, some_bytes, Spells, Gap, none}
-use Rattle.tptp_words.specs.Text.{blank, IsText}
+use Rattle.tptp_words.specs.Text.{Token, Placed, tokens, is_blank, AllPass, some_bytes, Spells}
+use Rattle.tptp_words.specs.Text.{Gap, none, blank, IsText}
 use Rattle.tptp_words.specs.Layout.{written, placed_from}
 use Rattle.tptp_words.specs.Laws.{Stand, IsReadBack}
 use Rattle.tptp_words.proofs.Gaps.{gap_first}
@@ -152,3 +152,12 @@ module _ (before after : Token → List ℕ) (blank_before : (w : Token) → All
   -- words are read back where each is spelled and each neighbour passes the test
   pub reads_back : (ws : List Token) → AllMeet ws → IsReadBack before after ws
   reads_back ws h = reads (length (written before after ws)) 0 ws (all_meet ws h) (omega arith)
+
+-- the words that were written, without their places
+pub tokens-placed_from : (before after : Token → List ℕ) (at : ℕ) (ws : List Token)
+    → tokens (placed_from before after at ws) ≡ ws
+tokens-placed_from before after at [] = refl
+tokens-placed_from before after at (w ∷ ws) =
+    ap (λ z. w ∷ z)
+    (tokens-placed_from before after
+    (at + length (before w) + length w.spelling + length (after w)) ws)
