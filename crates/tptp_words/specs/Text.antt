@@ -5,6 +5,10 @@ use Rattle.std.specs.Prelude.{codes}
 use Rattle.std.specs.Prelude.{Option, Some, None}
 use Rattle.std.specs.Char.{is_ascii_alphanumeric, is_ascii_lowercase, is_ascii_uppercase}
 use Rattle.std.specs.Char.{is_ascii_digit}
+pub use Rattle.tptp_words.specs.Bytes.{line_feed, single_quote, double_quote, backslash, percent}
+pub use Rattle.tptp_words.specs.Bytes.{slash, star, dollar_sign, point}
+use Rattle.tptp_words.specs.Bytes.{space, tab, carriage_return, underscore, tilde}
+use Rattle.tptp_words.specs.Bytes.{capital_e, small_e}
 use Rattle.tptp_words.specs.declared.word.WordKind.{WordKind}
 use Rattle.tptp_words.specs.declared.word.WordKind.TheVariants.{Lower, Upper, Quoted, Distinct}
 use Rattle.tptp_words.specs.declared.word.WordKind.TheVariants.{Dollar, System, Number, Mark}
@@ -27,45 +31,20 @@ tokens placed = map (λ (p : Placed). p.token) placed
 
 -- ---- bytes
 
-abbrev pub line_feed : ℕ
-line_feed = 10
-
-abbrev pub single_quote : ℕ
-single_quote = 39
-
-abbrev pub double_quote : ℕ
-double_quote = 34
-
-abbrev pub backslash : ℕ
-backslash = 92
-
-abbrev pub percent : ℕ
-percent = 37
-
-abbrev pub slash : ℕ
-slash = 47
-
-abbrev pub star : ℕ
-star = 42
-
-abbrev pub dollar_sign : ℕ
-dollar_sign = 36
-
-abbrev pub point : ℕ
-point = 46
-
 -- a letter, a digit or `_`
 abbrev pub is_name : ℕ → Bool
-is_name b = is_ascii_alphanumeric b || b == 95
+is_name b = is_ascii_alphanumeric b || b == underscore
 
 -- a space, a tab, a carriage return or a line feed
 abbrev pub is_blank : ℕ → Bool
-is_blank b = b == 32 || b == 9 || b == 13 || b == line_feed
+is_blank b = b == space || b == tab || b == carriage_return || b == line_feed
 
--- a byte that may stand between quotes, if behind a backslash where it is a quote or a backslash
+-- a byte from the space to the tilde: it may stand between quotes, with a backslash before it where
+-- it is the quote or a backslash
 abbrev pub is_printable : ℕ → Bool
-is_printable b = leb 32 b && leb b 126
+is_printable b = leb space b && leb b tilde
 
+-- each byte passes the test
 abbrev pub AllPass : (ℕ → Bool) → List ℕ → Type 0
 AllPass p [] = Unit {0}
 AllPass p (b ∷ bs) = (p b ≡ true) × AllPass p bs
@@ -122,7 +101,7 @@ IsFraction s = (s ≡ []) ⊎ ((ds : List ℕ) × IsDigits ds × (s ≡ point �
 abbrev pub IsExponent : List ℕ → Type 0
 IsExponent s =
     (s ≡ [])
-    ⊎ ((e : ℕ) × (sign ds : List ℕ) × ((e ≡ 69) ⊎ (e ≡ 101)) × IsSign sign × IsDigits ds
+    ⊎ ((e : ℕ) × (sign ds : List ℕ) × ((e ≡ capital_e) ⊎ (e ≡ small_e)) × IsSign sign × IsDigits ds
     × (s ≡ e ∷ (sign ++ ds)))
 
 -- what follows a number's first digits: `/` and digits, or a fraction and an exponent, or nothing
@@ -162,6 +141,7 @@ NoWord start = (kind : WordKind) (s after : List ℕ) → start ≡ s ++ after �
 
 -- ---- gaps
 
+-- any byte but a line feed
 abbrev pub not_feed : ℕ → Bool
 not_feed b = not (b == line_feed)
 
@@ -183,6 +163,7 @@ pub data Gap : List ℕ → List ℕ → Type 0 where
 
 -- ---- errors
 
+-- one of the two quotes
 abbrev pub is_quote : ℕ → Bool
 is_quote b = b == single_quote || b == double_quote
 
