@@ -1,8 +1,7 @@
 -- A text is gaps and words, each word the longest spelling at its place.
 use Rattle.std.specs.Prelude.{◌≡◌, ℕ, ◌-◌, ◌≤◌, ◌⊎◌, Bool, true, false, not, ◌||◌, ◌&&◌, ◌==◌}
 use Rattle.std.specs.Prelude.{if◌then◌else◌, List, [], ◌∷◌, ◌++◌, map, length, slice_index, leb}
-use Rattle.std.specs.Prelude.{codes}
-use Rattle.std.specs.Prelude.{Option, Some, None}
+use Rattle.std.specs.Prelude.{codes, Option, Some, None}
 use Rattle.std.specs.Char.{is_ascii_alphanumeric, is_ascii_lowercase, is_ascii_uppercase}
 use Rattle.std.specs.Char.{is_ascii_digit}
 pub use Rattle.tptp_words.specs.Bytes.{line_feed, single_quote, double_quote, backslash, percent}
@@ -97,19 +96,31 @@ IsSign s = (s ≡ []) ⊎ (s ≡ codes "+") ⊎ (s ≡ codes "-")
 abbrev pub IsFraction : List ℕ → Type 0
 IsFraction s = (s ≡ []) ⊎ ((ds : List ℕ) × IsDigits ds × (s ≡ point ∷ ds))
 
--- nothing, or `E` or `e`, a sign or none, and digits
-abbrev pub IsExponent : List ℕ → Type 0
-IsExponent s =
-    (s ≡ [])
-    ⊎ ((e : ℕ) × (sign ds : List ℕ) × ((e ≡ capital_e) ⊎ (e ≡ small_e)) × IsSign sign × IsDigits ds
-    × (s ≡ e ∷ (sign ++ ds)))
+abbrev pub IsE : ℕ → Type 0
+IsE b = (b ≡ capital_e) ⊎ (b ≡ small_e)
 
--- what follows a number's first digits: `/` and digits, or a fraction and an exponent, or nothing
+-- `E` or `e`, a sign or none, and digits
+abbrev pub IsPower : List ℕ → Type 0
+IsPower s =
+    (e : ℕ) × (sign ds : List ℕ) × IsE e × IsSign sign × IsDigits ds × (s ≡ e ∷ (sign ++ ds))
+
+-- nothing, or a power
+abbrev pub IsExponent : List ℕ → Type 0
+IsExponent s = (s ≡ []) ⊎ IsPower s
+
+-- `/` and digits
+abbrev pub IsRatio : List ℕ → Type 0
+IsRatio s = (ds : List ℕ) × IsDigits ds × (s ≡ slash ∷ ds)
+
+-- an optional fraction, and then an optional exponent
+abbrev pub IsDecimal : List ℕ → Type 0
+IsDecimal s =
+    (fraction exponent : List ℕ) × IsFraction fraction × IsExponent exponent
+    × (s ≡ fraction ++ exponent)
+
+-- what may follow a number's first digits
 abbrev pub IsTail : List ℕ → Type 0
-IsTail s =
-    ((ds : List ℕ) × IsDigits ds × (s ≡ slash ∷ ds))
-    ⊎ ((fraction exponent : List ℕ) × IsFraction fraction × IsExponent exponent
-    × (s ≡ fraction ++ exponent))
+IsTail s = IsRatio s ⊎ IsDecimal s
 
 -- the bytes spell a word of this kind
 abbrev pub Spells : WordKind → List ℕ → Type 0
@@ -197,19 +208,29 @@ IsForbidden quote content (b ∷ after) =
     ⊎ ((b ≡ backslash) × NoEscape quote after)
     ⊎ ((b ≡ single_quote) × (quote ≡ single_quote) × (content ≡ []))
 
--- from `start`, where a word should begin, the first byte that can neither begin nor continue one
--- is the first of `rest`
-abbrev pub IsBadByte : List ℕ → List ℕ → Type 0
-IsBadByte start rest =
-    ((start ≡ rest) × IsStray start)
-    ⊎ ((quote : ℕ) × (content : List ℕ) × IsOpened quote content start rest
-    × IsForbidden quote content rest)
+-- from the quote that `start` begins with, the first byte that may not stand there is that of `rest`
+abbrev pub IsBadInQuotes : List ℕ → List ℕ → Type 0
+IsBadInQuotes start rest =
+    (quote : ℕ) × (content : List ℕ) × IsOpened quote content start rest
+    × IsForbidden quote content rest
 
--- a block comment or a quoted text is opened here, and the text ends before it does
+-- from `start`, where a word should begin, the first byte that can neither begin nor continue one
+-- is that of `rest`
+abbrev pub IsBadByte : List ℕ → List ℕ → Type 0
+IsBadByte start rest = ((start ≡ rest) × IsStray start) ⊎ IsBadInQuotes start rest
+
+-- a block comment begins here, and the text ends before it does
+abbrev pub IsOpenComment : List ℕ → Type 0
+IsOpenComment start =
+    (body : List ℕ) × (start ≡ slash ∷ star ∷ body) × (has_close body ≡ false)
+
+-- quoted text begins here, and the text ends before it does
+abbrev pub IsOpenQuote : List ℕ → Type 0
+IsOpenQuote start = (quote : ℕ) × (content : List ℕ) × IsOpened quote content start []
+
+-- what begins here has no end
 abbrev pub IsUnclosed : List ℕ → Type 0
-IsUnclosed start =
-    ((body : List ℕ) × (start ≡ slash ∷ star ∷ body) × (has_close body ≡ false))
-    ⊎ ((quote : ℕ) × (content : List ℕ) × IsOpened quote content start [])
+IsUnclosed start = IsOpenComment start ⊎ IsOpenQuote start
 
 -- ---- texts
 
