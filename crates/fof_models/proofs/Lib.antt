@@ -1,0 +1,11 @@
+pub mod Truth
+pub mod Sound
+pub mod Quantified
+pub mod Induction
+pub mod Agreement
+pub mod Tabled
+pub mod Places
+pub mod Parts
+pub mod Depth
+pub mod Stated
+pub mod WellFormed
