@@ -1,15 +1,11 @@
 -- Depth and number of binders: of the parts of a formula, and of one against the other.
-use Rattle.std.specs.Prelude.{ℕ, zero, suc, ◌≡◌, ◌<◌, ◌≤◌, ◌+◌, max, Bool, List, [], ◌∷◌, ◌++◌, map, length, sum, take, get_or}
+use Rattle.std.specs.Prelude.{ℕ, zero, suc, ◌≡◌, ◌<◌, ◌≤◌, ◌+◌, max, List, [], ◌∷◌, ◌++◌, map, length, sum, take, get_or}
 use Rattle.std.specs.List.{AllByRecursion}
-use Rattle.std.proofs.Common.{refl, sym, ap, ◌∙◌, subst, arith}
+use Rattle.std.proofs.Common.{sym, ap, ◌∙◌, subst, arith}
 use Rattle.std.proofs.lemmas.List.{take_more, map-append}
 use Rattle.std.proofs.lemmas.List.Sums.{sum_by-cons}
-use Rattle.tf_core.specs.declared.ty.Ty.{Ty}
-use Rattle.tf_core.specs.declared.term.Term.{Term}
 use Rattle.tf_core.specs.declared.formula.Formula.{Formula}
-use Rattle.tf_core.specs.declared.formula.Formula.TheVariants as formula
 use Rattle.tf_core.specs.declared.nnf.Nnf.{Nnf}
-use Rattle.tf_core.specs.declared.nnf.Nnf.TheVariants as nnf
 use Rattle.tf_core.specs.Counts.{greatest, depth, normal_depth, binder_count, normal_binder_count}
 use Rattle.tf_core.proofs.Counts.{depth-true, depth-false, depth-atom, depth-equal, depth-not, depth-and, depth-or, depth-implies, depth-if, depth-iff, depth-xor, depth-nand, depth-nor, depth-for_all, depth-exists, normal_depth-true, normal_depth-false, normal_depth-atom, normal_depth-equation, normal_depth-and, normal_depth-or, normal_depth-for_all, normal_depth-exists, binder_sum-true, binder_sum-false, binder_sum-atom, binder_sum-equal, binder_sum-not, binder_sum-and, binder_sum-or, binder_sum-implies, binder_sum-if, binder_sum-iff, binder_sum-xor, binder_sum-nand, binder_sum-nor, binder_sum-for_all, binder_sum-exists, normal_sum-true, normal_sum-false, normal_sum-atom, normal_sum-equation, normal_sum-and, normal_sum-or, normal_sum-for_all, normal_sum-exists}
 use Rattle.tf_core.proofs.FormulaInduction.{FormulaCases, formula_induction, NnfCases, nnf_induction}
@@ -47,9 +43,12 @@ greatest_within : {A : Type 0} (f g : A → ℕ) (items : List A) →
     AllByRecursion (λ item. f item ≤ g item) items → greatest (map f items) ≤ sum (map g items)
 greatest_within f g [] within = omega arith
 greatest_within f g (item ∷ items) within =
-    omega (arith, within.0, greatest_within f g items within.1,
-        sum_by-cons (λ n. n) (g item) (map g items))
-
+    omega (
+      arith,
+      within.0,
+      greatest_within f g items within.1,
+      sum_by-cons (λ n. n) (g item) (map g items),
+    )
 
 abbrev DepthWithin : Formula → Type 0
 DepthWithin p = depth p ≤ binder_count p

@@ -50,10 +50,10 @@ module _ (P : Formula → Type 0) (cases : FormulaCases P) where
       rolled (layer_formula.Not a) = subst P (sym (formula.rolls-Not a.0)) (cases.on_not a.0 a.1)
       rolled (layer_formula.And pairs) =
           subst P (sym (formula.rolls-And (map (λ pair. pair.0) pairs)))
-              (cases.on_and (map (λ pair. pair.0) pairs) (all_of_pairs P pairs))
+          (cases.on_and (map (λ pair. pair.0) pairs) (all_of_pairs P pairs))
       rolled (layer_formula.Or pairs) =
           subst P (sym (formula.rolls-Or (map (λ pair. pair.0) pairs)))
-              (cases.on_or (map (λ pair. pair.0) pairs) (all_of_pairs P pairs))
+          (cases.on_or (map (λ pair. pair.0) pairs) (all_of_pairs P pairs))
       rolled (layer_formula.Implies a b) =
           subst P (sym (formula.rolls-Implies a.0 b.0)) (cases.on_implies a.0 b.0 a.1 b.1)
       rolled (layer_formula.If a b) =
@@ -100,10 +100,10 @@ module _ (P : Nnf → Type 0) (cases : NnfCases P) where
           subst P (sym (nnf.rolls-Equation positive ty left right)) (cases.on_equation positive ty left right)
       rolled (layer_nnf.And pairs) =
           subst P (sym (nnf.rolls-And (map (λ pair. pair.0) pairs)))
-              (cases.on_and (map (λ pair. pair.0) pairs) (all_of_pairs P pairs))
+          (cases.on_and (map (λ pair. pair.0) pairs) (all_of_pairs P pairs))
       rolled (layer_nnf.Or pairs) =
           subst P (sym (nnf.rolls-Or (map (λ pair. pair.0) pairs)))
-              (cases.on_or (map (λ pair. pair.0) pairs) (all_of_pairs P pairs))
+          (cases.on_or (map (λ pair. pair.0) pairs) (all_of_pairs P pairs))
       rolled (layer_nnf.ForAll ty body) =
           subst P (sym (nnf.rolls-ForAll ty body.0)) (cases.on_for_all ty body.0 body.1)
       rolled (layer_nnf.Exists ty body) =

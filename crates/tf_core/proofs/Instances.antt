@@ -1,21 +1,19 @@
 -- Values and truth of instances and of shifted terms.
-use Rattle.std.specs.Prelude.{ℕ, zero, suc, ◌≡◌, ◌<◌, ◌≤◌, ◌+◌, ◌-◌, Bool, true, false, ◌&&◌, ◌||◌, List, [], ◌∷◌, ◌++◌, map, length, eqb, ltb, cond, get_or, slice_index}
+use Rattle.std.specs.Prelude.{ℕ, zero, suc, ◌≡◌, ◌<◌, ◌≤◌, ◌+◌, ◌-◌, ◌&&◌, ◌||◌, List, [], ◌∷◌, ◌++◌, map, length, eqb, cond, get_or, slice_index}
 use Rattle.std.specs.List.{AllByRecursion, list_all, list_any}
-use Rattle.std.proofs.Common.{refl, sym, ap, ◌∙◌, subst, arith, ⊎_elim}
+use Rattle.std.proofs.Common.{refl, sym, ap, ◌∙◌, arith, ⊎_elim}
 use Rattle.std.proofs.Math.Path.{fun_ext}
-use Rattle.std.proofs.lemmas.Bool.{cases_lt, ltb-true, lt-ltb, le-ltb}
-use Rattle.std.proofs.lemmas.List.{get_or_append_left, get_or-append-add, length-append}
+use Rattle.std.proofs.lemmas.Bool.{cases_lt, lt-ltb, le-ltb}
+use Rattle.std.proofs.lemmas.List.{get_or_append_left, get_or-append-add}
 use Rattle.enc_base.specs.Quantifiers.{all_below, some_below}
 use Rattle.tf_core.specs.declared.ty.Ty.{Ty}
 use Rattle.tf_core.specs.declared.ty.Ty.TheVariants as type
 use Rattle.tf_core.specs.declared.term.Term.{Term}
-use Rattle.tf_core.specs.declared.term.Term.TheVariants as term
 use Rattle.tf_core.specs.declared.nnf.Nnf.{Nnf}
-use Rattle.tf_core.specs.declared.nnf.Nnf.TheVariants as nnf
 use Rattle.tf_core.specs.declared.signature.Signature.{Signature}
 use Rattle.tf_core.specs.Types.{type_value, instantiate}
 use Rattle.tf_core.specs.Structures.{Typed, size_of, member_of}
-use Rattle.tf_core.specs.Truth.{value, holds_at, signed, normal_truth}
+use Rattle.tf_core.specs.Truth.{value, signed, normal_truth}
 use Rattle.tf_core.specs.Substitution.{raised, shift, substitute_term, substitute_types}
 use Rattle.tf_core.specs.Typing.{IsType, type_variable, type_apply, AreTypes, no_types, more_types, HasType, of_variable, of_apply, HaveTypes, no_terms, more_terms, IsNnf, nnf_true, nnf_false, nnf_atom, nnf_equation, nnf_and, nnf_or, nnf_for_all, nnf_exists, AreNnf, no_parts, more_parts}
 use Rattle.tf_core.proofs.Types.{type_value-variable, type_value-apply, instantiate-variable, instantiate-apply}
@@ -53,9 +51,9 @@ module _ (constructor_at : ℕ → List ℕ → ℕ) (members : List ℕ) (insta
     type_values-instantiate g variables types no_types all = refl
     type_values-instantiate g variables types (more_types ty others formed rest) all =
         ap (λ m. m ∷ map (type_value constructor_at members) (map (instantiate instances) others))
-            (type_value-instantiate g variables ty formed all)
+        (type_value-instantiate g variables ty formed all)
         ∙ ap (λ ms. type_value constructor_at (map (type_value constructor_at members) instances) ty ∷ ms)
-            (type_values-instantiate g variables others rest all)
+        (type_values-instantiate g variables others rest all)
 
 -- the value of a shifted term is the term's, with the new variables put in
 module _ (s : Typed) (members before inserted after : List ℕ) where
@@ -102,15 +100,15 @@ module _ (s : Typed) (members before inserted after : List ℕ) where
   pub value-shift : (t : Term) → ShiftsRight t
   value-shift = term_induction ShiftsRight
       (λ i.
-          ap (value s members (before ++ (inserted ++ after))) (shift-variable (length inserted) (length before) i)
-          ∙ value-variable s members (before ++ (inserted ++ after)) (raised (length inserted) (length before) i)
-          ∙ raised_at i
-          ∙ sym (value-variable s members (before ++ after) i))
+      ap (value s members (before ++ (inserted ++ after))) (shift-variable (length inserted) (length before) i)
+      ∙ value-variable s members (before ++ (inserted ++ after)) (raised (length inserted) (length before) i)
+      ∙ raised_at i
+      ∙ sym (value-variable s members (before ++ after) i))
       (λ f types terms right.
-          ap (value s members (before ++ (inserted ++ after))) (shift-apply (length inserted) (length before) f types terms)
-          ∙ value-apply s members (before ++ (inserted ++ after)) f types (map (shift (length inserted) (length before)) terms)
-          ∙ ap (s.symbol_at f (map (member_of s members) types)) (shifted_values terms right)
-          ∙ sym (value-apply s members (before ++ after) f types terms))
+      ap (value s members (before ++ (inserted ++ after))) (shift-apply (length inserted) (length before) f types terms)
+      ∙ value-apply s members (before ++ (inserted ++ after)) f types (map (shift (length inserted) (length before)) terms)
+      ∙ ap (s.symbol_at f (map (member_of s members) types)) (shifted_values terms right)
+      ∙ sym (value-apply s members (before ++ after) f types terms))
 
 -- a formula with its types replaced is true where the formula is at the values of the types
 module _ (s : Typed) (members : List ℕ) (instances : List Ty) where
@@ -129,9 +127,9 @@ module _ (s : Typed) (members : List ℕ) (instances : List Ty) where
         ap (value s members elements) (substitute_term-apply instances f types terms)
         ∙ value-apply s members elements f (map (instantiate instances) types) (map (substitute_term instances) terms)
         ∙ ap (λ ms. s.symbol_at f ms (map (value s members elements) (map (substitute_term instances) terms)))
-            (type_values-instantiate s.constructor_at members instances g variables types instance.formed all)
+        (type_values-instantiate s.constructor_at members instances g variables types instance.formed all)
         ∙ ap (s.symbol_at f (map (member_of s inner) types))
-            (values-substitute_term g variables context elements terms (map (instantiate types) symbol.arguments) typed all)
+        (values-substitute_term g variables context elements terms (map (instantiate types) symbol.arguments) typed all)
         ∙ sym (value-apply s inner elements f types terms)
 
     pub values-substitute_term : (g : Signature) (variables : ℕ) (context : List Ty) (elements : List ℕ) (terms : List Term) (types : List Ty) →
@@ -140,9 +138,9 @@ module _ (s : Typed) (members : List ℕ) (instances : List Ty) where
     values-substitute_term g variables context elements terms types no_terms all = refl
     values-substitute_term g variables context elements terms types (more_terms t ty others rest typed typed_rest) all =
         ap (λ v. v ∷ map (value s members elements) (map (substitute_term instances) others))
-            (value-substitute_term g variables context elements t ty typed all)
+        (value-substitute_term g variables context elements t ty typed all)
         ∙ ap (λ vs. value s inner elements t ∷ vs)
-            (values-substitute_term g variables context elements others rest typed_rest all)
+        (values-substitute_term g variables context elements others rest typed_rest all)
 
   size-instantiate : (g : Signature) (variables : ℕ) (ty : Ty) → IsType g variables ty → variables ≡ length instances →
       size_of s (member_of s members (instantiate instances ty)) ≡ size_of s (member_of s inner ty)
@@ -163,17 +161,17 @@ module _ (s : Typed) (members : List ℕ) (instances : List Ty) where
         ap (λ x. normal_truth s members x elements) (substitute_types-atom instances positive f types terms)
         ∙ normal_truth-atom s members positive f (map (instantiate instances) types) (map (substitute_term instances) terms) elements
         ∙ ap (λ ms. signed positive (eqb (s.symbol_at f ms (map (value s members elements) (map (substitute_term instances) terms))) 1))
-            (type_values-instantiate s.constructor_at members instances g variables types atom.predicate.formed all)
+        (type_values-instantiate s.constructor_at members instances g variables types atom.predicate.formed all)
         ∙ ap (λ vs. signed positive (eqb (s.symbol_at f (map (member_of s inner) types) vs) 1))
-            (values-substitute_term g variables context elements terms (map (instantiate types) symbol.arguments) atom.arguments all)
+        (values-substitute_term g variables context elements terms (map (instantiate types) symbol.arguments) atom.arguments all)
         ∙ sym (normal_truth-atom s inner positive f types terms elements)
     truth-substitute_types g variables context p (nnf_equation c positive ty left right equation) all elements =
         ap (λ x. normal_truth s members x elements) (substitute_types-equation instances positive ty left right)
         ∙ normal_truth-equation s members positive (instantiate instances ty) (substitute_term instances left) (substitute_term instances right) elements
         ∙ ap (λ v. signed positive (eqb v (value s members elements (substitute_term instances right))))
-            (value-substitute_term g variables context elements left ty equation.left_side all)
+        (value-substitute_term g variables context elements left ty equation.left_side all)
         ∙ ap (λ v. signed positive (eqb (value s inner elements left) v))
-            (value-substitute_term g variables context elements right ty equation.right_side all)
+        (value-substitute_term g variables context elements right ty equation.right_side all)
         ∙ sym (normal_truth-equation s inner positive ty left right elements)
     truth-substitute_types g variables context p (nnf_and c parts typed) all elements =
         ap (λ x. normal_truth s members x elements) (substitute_types-and instances parts)
@@ -189,17 +187,17 @@ module _ (s : Typed) (members : List ℕ) (instances : List Ty) where
         ap (λ x. normal_truth s members x elements) (substitute_types-for_all instances ty body)
         ∙ normal_truth-for_all s members (instantiate instances ty) (substitute_types instances body) elements
         ∙ ap (λ n. all_below n (λ element. normal_truth s members (substitute_types instances body) (element ∷ elements)))
-            (size-instantiate g variables ty formed all)
+        (size-instantiate g variables ty formed all)
         ∙ ap (all_below (size_of s (member_of s inner ty)))
-            (fun_ext (λ element. truth-substitute_types g variables (ty ∷ context) body typed all (element ∷ elements)))
+        (fun_ext (λ element. truth-substitute_types g variables (ty ∷ context) body typed all (element ∷ elements)))
         ∙ sym (normal_truth-for_all s inner ty body elements)
     truth-substitute_types g variables context p (nnf_exists c ty body formed typed) all elements =
         ap (λ x. normal_truth s members x elements) (substitute_types-exists instances ty body)
         ∙ normal_truth-exists s members (instantiate instances ty) (substitute_types instances body) elements
         ∙ ap (λ n. some_below n (λ element. normal_truth s members (substitute_types instances body) (element ∷ elements)))
-            (size-instantiate g variables ty formed all)
+        (size-instantiate g variables ty formed all)
         ∙ ap (some_below (size_of s (member_of s inner ty)))
-            (fun_ext (λ element. truth-substitute_types g variables (ty ∷ context) body typed all (element ∷ elements)))
+        (fun_ext (λ element. truth-substitute_types g variables (ty ∷ context) body typed all (element ∷ elements)))
         ∙ sym (normal_truth-exists s inner ty body elements)
 
     all-substitute_types : (g : Signature) (variables : ℕ) (context : List Ty) (parts : List Nnf) →
@@ -209,9 +207,9 @@ module _ (s : Typed) (members : List ℕ) (instances : List Ty) where
     all-substitute_types g variables context parts (no_parts c) all elements = refl
     all-substitute_types g variables context parts (more_parts c part others typed rest) all elements =
         ap (λ b. b && list_all (λ x. normal_truth s members x elements) (map (substitute_types instances) others))
-            (truth-substitute_types g variables context part typed all elements)
+        (truth-substitute_types g variables context part typed all elements)
         ∙ ap (λ b. normal_truth s inner part elements && b)
-            (all-substitute_types g variables context others rest all elements)
+        (all-substitute_types g variables context others rest all elements)
 
     any-substitute_types : (g : Signature) (variables : ℕ) (context : List Ty) (parts : List Nnf) →
         AreNnf g variables context parts → variables ≡ length instances → (elements : List ℕ) →
@@ -220,6 +218,6 @@ module _ (s : Typed) (members : List ℕ) (instances : List Ty) where
     any-substitute_types g variables context parts (no_parts c) all elements = refl
     any-substitute_types g variables context parts (more_parts c part others typed rest) all elements =
         ap (λ b. b || list_any (λ x. normal_truth s members x elements) (map (substitute_types instances) others))
-            (truth-substitute_types g variables context part typed all elements)
+        (truth-substitute_types g variables context part typed all elements)
         ∙ ap (λ b. normal_truth s inner part elements || b)
-            (any-substitute_types g variables context others rest all elements)
+        (any-substitute_types g variables context others rest all elements)

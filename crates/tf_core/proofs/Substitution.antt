@@ -1,8 +1,7 @@
 -- The equations of shifting and of substitution, one a variant, in their order.
-use Rattle.std.specs.Prelude.{ℕ, ◌+◌, ◌≡◌, Bool, true, false, not, ◌&&◌, ◌||◌, List, [], ◌∷◌, map, length, eqb, leb, ltb, max, sum, slice_index, slice_get, get_or}
-use Rattle.std.specs.List.{list_all, list_any}
+use Rattle.std.specs.Prelude.{ℕ, ◌≡◌, Bool, List, map, ltb}
+use Rattle.std.specs.List.{list_all}
 use Rattle.std.proofs.Common.{sym, ap, ◌∙◌}
-use Rattle.std.proofs.lemmas.List.{length-map}
 use Rattle.std.proofs.lemmas.List.Folds.{list_all-map}
 use Rattle.tf_core.specs.declared.ty.Ty.{Ty}
 use Rattle.tf_core.specs.declared.term.Term.{Term, roll-Term}
@@ -86,7 +85,7 @@ substitute_types-atom instances positive f types terms =
 
 pub substitute_types-equation : (instances : List Ty) (positive : Bool) (ty : Ty) (left right : Term) → substitute_types instances (nnf.Equation positive ty left right)
     ≡ nnf.Equation positive (instantiate instances ty)
-        (substitute_term instances left) (substitute_term instances right)
+    (substitute_term instances left) (substitute_term instances right)
 substitute_types-equation instances positive ty left right =
     ap (substitute_types instances) (sym (nnf.rolls-Equation positive ty left right)) ∙ substitute_types-roll instances (nnf_layer.Equation positive ty left right)
 

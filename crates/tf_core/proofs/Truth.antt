@@ -1,8 +1,7 @@
 -- The equations of values and of truth, one a variant, in their order.
-use Rattle.std.specs.Prelude.{ℕ, ◌+◌, ◌≡◌, Bool, true, false, not, ◌&&◌, ◌||◌, List, [], ◌∷◌, map, length, eqb, leb, ltb, max, sum, slice_index, slice_get, get_or}
+use Rattle.std.specs.Prelude.{ℕ, ◌≡◌, Bool, true, false, not, ◌&&◌, ◌||◌, List, ◌∷◌, map, eqb, slice_index}
 use Rattle.std.specs.List.{list_all, list_any}
 use Rattle.std.proofs.Common.{sym, ap, ◌∙◌}
-use Rattle.std.proofs.lemmas.List.{length-map}
 use Rattle.std.proofs.lemmas.List.Folds.{list_all-map}
 use Rattle.enc_base.specs.Quantifiers.{all_below, some_below}
 use Rattle.enc_base.proofs.Quantifiers.{list_any-map}

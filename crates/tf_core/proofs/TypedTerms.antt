@@ -1,6 +1,6 @@
 -- The typing relations of terms and formulas and their tests say the same.
-use Rattle.std.specs.Prelude.{ℕ, zero, suc, ◌≡◌, ◌<◌, ◌+◌, ◌↔◌, Bool, true, false, ◌&&◌, List, [], ◌∷◌, map, length, eqb, slice_get, Option, Some, None, IsTrue}
-use Rattle.std.specs.List.{AllByRecursion, list_all}
+use Rattle.std.specs.Prelude.{ℕ, ◌≡◌, ◌↔◌, ◌&&◌, List, [], ◌∷◌, map, length, eqb, slice_get, Option, Some, None, IsTrue}
+use Rattle.std.specs.List.{AllByRecursion}
 use Rattle.std.proofs.Common.{refl, sym, ap, ◌∙◌, subst}
 use Rattle.std.proofs.lemmas.Bool.{and_parts, and_from, eqb-true, eq-eqb, false≢true}
 use Rattle.tf_core.specs.declared.ty.Ty.{Ty}
@@ -8,8 +8,8 @@ use Rattle.tf_core.specs.declared.term.Term.{Term}
 use Rattle.tf_core.specs.declared.term.Term.TheVariants as term
 use Rattle.tf_core.specs.declared.signature.Symbol.{Symbol}
 use Rattle.tf_core.specs.declared.signature.Signature.{Signature}
-use Rattle.tf_core.specs.Types.{same_type, pass_in_order, instantiate}
-use Rattle.tf_core.specs.Typing.{AreTypes, IsInstance, HasType, of_variable, of_apply, HaveTypes, no_terms, more_terms, IsAtom, IsEquation, IsType}
+use Rattle.tf_core.specs.Types.{pass_in_order, instantiate}
+use Rattle.tf_core.specs.Typing.{AreTypes, HasType, of_variable, of_apply, HaveTypes, no_terms, more_terms, IsAtom, IsEquation}
 use Rattle.tf_core.specs.TypingTests.{is_of_type, fit, gives, gives_nothing, is_function, is_predicate, is_atom_test, is_equation_test, is_type, are_types, has_type}
 use Rattle.tf_core.proofs.TypingTests.{has_type-variable, has_type-apply}
 use Rattle.tf_core.proofs.Induction.{term_induction}
@@ -40,12 +40,13 @@ module _ (g : Signature) (variables : ℕ) (context : List Ty) where
         × HaveTypes g variables context terms (map (instantiate types) symbol.arguments)
     fit_says symbol holds =
         let first = and_parts (eqb (length types) symbol.parameters)
-                (are_types g variables types && pass_in_order (map (has_type g variables context) terms) (map (instantiate types) symbol.arguments)) holds in
+        (are_types g variables types && pass_in_order (map (has_type g variables context) terms) (map (instantiate types) symbol.arguments)) holds in
         let second = and_parts (are_types g variables types)
-                (pass_in_order (map (has_type g variables context) terms) (map (instantiate types) symbol.arguments)) first.1 in
-        (eqb-true (length types) symbol.parameters first.0,
+        (pass_in_order (map (has_type g variables context) terms) (map (instantiate types) symbol.arguments)) first.1 in (
+          eqb-true (length types) symbol.parameters first.0,
           AreTypes-from g variables types second.0,
-          have_from terms (map (instantiate types) symbol.arguments) each second.1)
+          have_from terms (map (instantiate types) symbol.arguments) each second.1,
+        )
 
     gives_says : (result : Option Ty) (ty : Ty) → IsTrue (gives result types ty) →
         (r : Ty) × (result ≡ Some r) × (instantiate types r ≡ ty)
@@ -61,8 +62,8 @@ module _ (g : Signature) (variables : ℕ) (context : List Ty) where
         let fits = fit_says symbol parts.0 in
         let result = gives_says symbol.result ty parts.1 in
         subst (HasType g variables context (term.Apply f types terms)) result.2
-            (of_apply f symbol result.0 types terms
-                (record { at = at; gives = result.1; count = fits.0; formed = fits.1 }) fits.2)
+        (of_apply f symbol result.0 types terms
+        (record { at = at; gives = result.1; count = fits.0; formed = fits.1 }) fits.2)
 
     nothing_says : (result : Option Ty) → IsTrue (gives_nothing result) → result ≡ None
     nothing_says None holds = refl
@@ -74,19 +75,21 @@ module _ (g : Signature) (variables : ℕ) (context : List Ty) where
     predicate_says None at holds = absurd (false≢true holds)
     predicate_says (Some symbol) at holds =
         let parts = and_parts (fit g variables symbol types (map (has_type g variables context) terms)) (gives_nothing symbol.result) holds in
-        let fits = fit_says symbol parts.0 in
-        (symbol, record {
-          predicate = record { at = at; gives = nothing_says symbol.result parts.1; count = fits.0; formed = fits.1 };
-          arguments = fits.2;
-        })
+        let fits = fit_says symbol parts.0 in (
+          symbol,
+          record {
+            predicate = record { at = at; gives = nothing_says symbol.result parts.1; count = fits.0; formed = fits.1 };
+            arguments = fits.2;
+          },
+        )
 
   pub HasType-from : (t : Term) → HasTypeFrom t
   HasType-from = term_induction HasTypeFrom
       (λ i ty holds.
-          of_variable i ty (variable_says (slice_get context i) ty (sym (has_type-variable g variables context i ty) ∙ holds)))
+      of_variable i ty (variable_says (slice_get context i) ty (sym (has_type-variable g variables context i ty) ∙ holds)))
       (λ f types terms each ty holds.
-          function_says f types terms each (slice_get g.symbols f) ty refl
-              (sym (has_type-apply g variables context f types terms ty) ∙ holds))
+      function_says f types terms each (slice_get g.symbols f) ty refl
+      (sym (has_type-apply g variables context f types terms ty) ∙ holds))
 
   each_from : (terms : List Term) → AllByRecursion HasTypeFrom terms
   each_from [] = tt
@@ -98,7 +101,7 @@ module _ (g : Signature) (variables : ℕ) (context : List Ty) where
       IsTrue (fit g variables symbol types (map (has_type g variables context) terms))
   fit_from symbol types terms count formed pass =
       and_from (eqb (length types) symbol.parameters) _ (eq-eqb (length types) symbol.parameters count)
-          (and_from (are_types g variables types) _ (are_types-from g variables types formed) pass)
+      (and_from (are_types g variables types) _ (are_types-from g variables types formed) pass)
 
   mutual
     pub has_type-from : (t : Term) (ty : Ty) → HasType g variables context t ty →
@@ -110,16 +113,16 @@ module _ (g : Signature) (variables : ℕ) (context : List Ty) where
         has_type-apply g variables context f types terms ty
         ∙ ap (λ found. is_function g variables found types (map (has_type g variables context) terms) ty) instance.at
         ∙ and_from (fit g variables symbol types (map (has_type g variables context) terms)) (gives symbol.result types ty)
-            (fit_from symbol types terms instance.count instance.formed
-                (have_types-from terms (map (instantiate types) symbol.arguments) typed))
-            (ap (λ r. gives r types ty) instance.gives ∙ same_type-self ty)
+        (fit_from symbol types terms instance.count instance.formed
+        (have_types-from terms (map (instantiate types) symbol.arguments) typed))
+        (ap (λ r. gives r types ty) instance.gives ∙ same_type-self ty)
 
     pub have_types-from : (terms : List Term) (types : List Ty) → HaveTypes g variables context terms types →
         IsTrue (pass_in_order (map (has_type g variables context) terms) types)
     have_types-from terms types no_terms = refl
     have_types-from terms types (more_terms t ty others rest typed typed_rest) =
         and_from (has_type g variables context t ty) (pass_in_order (map (has_type g variables context) others) rest)
-            (has_type-from t ty typed) (have_types-from others rest typed_rest)
+        (has_type-from t ty typed) (have_types-from others rest typed_rest)
 
   -- atoms and equations
 
@@ -134,22 +137,23 @@ module _ (g : Signature) (variables : ℕ) (context : List Ty) where
   is_atom_test-from f symbol types terms atom =
       ap (λ found. is_predicate g variables found types (map (has_type g variables context) terms)) atom.predicate.at
       ∙ and_from (fit g variables symbol types (map (has_type g variables context) terms)) (gives_nothing symbol.result)
-          (fit_from symbol types terms atom.predicate.count atom.predicate.formed
-              (have_types-from terms (map (instantiate types) symbol.arguments) atom.arguments))
-          (ap gives_nothing atom.predicate.gives)
+      (fit_from symbol types terms atom.predicate.count atom.predicate.formed
+      (have_types-from terms (map (instantiate types) symbol.arguments) atom.arguments))
+      (ap gives_nothing atom.predicate.gives)
 
   pub equation_says : (ty : Ty) (left right : Term) →
       IsTrue (is_equation_test g variables context ty left right) ↔ IsEquation g variables context ty left right
-  equation_says ty left right =
-      (λ holds.
-          let first = and_parts (is_type g variables ty) (has_type g variables context left ty && has_type g variables context right ty) holds in
-          let second = and_parts (has_type g variables context left ty) (has_type g variables context right ty) first.1 in
-          record {
-            formed = IsType-from g variables ty first.0;
-            left_side = HasType-from left ty second.0;
-            right_side = HasType-from right ty second.1;
-          },
-      λ equation.
-          and_from (is_type g variables ty) _ (is_type-from g variables ty equation.formed)
-              (and_from (has_type g variables context left ty) (has_type g variables context right ty)
-                  (has_type-from left ty equation.left_side) (has_type-from right ty equation.right_side)))
+  equation_says ty left right = (
+    λ holds.
+        let first = and_parts (is_type g variables ty) (has_type g variables context left ty && has_type g variables context right ty) holds in
+        let second = and_parts (has_type g variables context left ty) (has_type g variables context right ty) first.1 in
+        record {
+          formed = IsType-from g variables ty first.0;
+          left_side = HasType-from left ty second.0;
+          right_side = HasType-from right ty second.1;
+        },
+    λ equation.
+        and_from (is_type g variables ty) _ (is_type-from g variables ty equation.formed)
+        (and_from (has_type g variables context left ty) (has_type g variables context right ty)
+        (has_type-from left ty equation.left_side) (has_type-from right ty equation.right_side)),
+  )

@@ -1,9 +1,6 @@
 -- The equations of what is defined on types, one a variant, in their order.
-use Rattle.std.specs.Prelude.{ℕ, ◌+◌, ◌≡◌, Bool, true, false, not, ◌&&◌, ◌||◌, List, [], ◌∷◌, map, length, eqb, leb, ltb, max, sum, slice_index, slice_get, get_or}
-use Rattle.std.specs.List.{list_all, list_any}
+use Rattle.std.specs.Prelude.{ℕ, ◌+◌, ◌≡◌, Bool, List, map, sum, slice_index, get_or}
 use Rattle.std.proofs.Common.{sym, ap, ◌∙◌}
-use Rattle.std.proofs.lemmas.List.{length-map}
-use Rattle.std.proofs.lemmas.List.Folds.{list_all-map}
 use Rattle.tf_core.specs.declared.ty.Ty.{Ty, roll-Ty}
 use Rattle.tf_core.specs.declared.ty.Ty.TheVariants as type
 use Rattle.tf_core.specs.declared.ty.Ty.TheOpen.{Ty-F}

@@ -1,6 +1,6 @@
 -- The equations of the typing tests, one a variant, in their order.
-use Rattle.std.specs.Prelude.{ℕ, ◌+◌, ◌≡◌, Bool, true, false, not, ◌&&◌, ◌||◌, List, [], ◌∷◌, map, length, eqb, leb, ltb, max, sum, slice_index, slice_get, get_or}
-use Rattle.std.specs.List.{list_all, list_any}
+use Rattle.std.specs.Prelude.{ℕ, ◌≡◌, Bool, true, ◌&&◌, List, ◌∷◌, map, length, ltb, slice_get}
+use Rattle.std.specs.List.{list_all}
 use Rattle.std.proofs.Common.{sym, ap, ◌∙◌}
 use Rattle.std.proofs.lemmas.List.{length-map}
 use Rattle.std.proofs.lemmas.List.Folds.{list_all-map}
@@ -42,9 +42,9 @@ pub is_type-apply : (g : Signature) (variables : ℕ) (c : ℕ) (types : List Ty
 is_type-apply g variables c types =
     ap (is_type g variables) (sym (type.rolls-Apply c types)) ∙ is_type-roll g variables (type_layer.Apply c types)
     ∙ ap (λ n. takes (slice_get g.constructors c) n && list_all (λ b. b) (map (is_type g variables) types))
-        (length-map types (is_type g variables))
+    (length-map types (is_type g variables))
     ∙ ap (λ b. takes (slice_get g.constructors c) (length types) && b)
-        (list_all-map (λ (b : Bool). b) (is_type g variables) types)
+    (list_all-map (λ (b : Bool). b) (is_type g variables) types)
 
 has_type-roll : (g : Signature) (variables : ℕ) (context : List Ty) (x : Term-F Term) (ty : Ty) →
     has_type g variables context (roll-Term x) ty

@@ -52,7 +52,10 @@ impl Formula {
             Formula::Not(a) => Ok(Formula::Not(copy_boxed(alloc, a)?)),
             Formula::And(parts) => Ok(Formula::And(copy_formulas(alloc, parts.as_slice())?)),
             Formula::Or(parts) => Ok(Formula::Or(copy_formulas(alloc, parts.as_slice())?)),
-            Formula::Implies(a, b) => Ok(Formula::Implies(copy_boxed(alloc, a)?, copy_boxed(alloc, b)?)),
+            Formula::Implies(a, b) => Ok(Formula::Implies(
+                copy_boxed(alloc, a)?,
+                copy_boxed(alloc, b)?,
+            )),
             Formula::If(a, b) => Ok(Formula::If(copy_boxed(alloc, a)?, copy_boxed(alloc, b)?)),
             Formula::Iff(a, b) => Ok(Formula::Iff(copy_boxed(alloc, a)?, copy_boxed(alloc, b)?)),
             Formula::Xor(a, b) => Ok(Formula::Xor(copy_boxed(alloc, a)?, copy_boxed(alloc, b)?)),
@@ -90,7 +93,8 @@ impl Formula {
             (Formula::Or(parts), Formula::Or(others)) => {
                 same_formulas(parts.as_slice(), others.as_slice())
             }
-            (Formula::Implies(a, b), Formula::Implies(c, d)) => same_boxed(a, c) && same_boxed(b, d),
+            (Formula::Implies(a, b), Formula::Implies(c, d)) => same_boxed(a, c)
+                && same_boxed(b, d),
             (Formula::If(a, b), Formula::If(c, d)) => same_boxed(a, c) && same_boxed(b, d),
             (Formula::Iff(a, b), Formula::Iff(c, d)) => same_boxed(a, c) && same_boxed(b, d),
             (Formula::Xor(a, b), Formula::Xor(c, d)) => same_boxed(a, c) && same_boxed(b, d),

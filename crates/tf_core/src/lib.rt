@@ -20,7 +20,9 @@ pub use laws::{
 pub use nnf::{Nnf, copy_parts, same_parts};
 pub use normal::{Normal, NormalFormula, copy_normal_formulas, same_normal_formulas};
 pub use problem::{Problem, Role, Stated, copy_stated, same_stated};
-pub use signature::{Constructor, Signature, Symbol};
-pub use signature::{copy_constructors, copy_symbols, same_constructors, same_symbols};
+pub use signature::{
+    Constructor, Signature, Symbol, copy_constructors, copy_symbols, same_constructors,
+    same_symbols,
+};
 pub use term::{Term, copy_terms, same_terms, substituted_terms};
 pub use ty::{Ty, copy_types, instances_of, same_types};

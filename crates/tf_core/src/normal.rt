@@ -43,7 +43,10 @@ impl NormalFormula {
 }
 
 /// Equal formulas.
-pub fn copy_normal_formulas(alloc: Global, formulas: &[NormalFormula]) -> Result<List<NormalFormula>, NoMemory>
+pub fn copy_normal_formulas(
+    alloc: Global,
+    formulas: &[NormalFormula],
+) -> Result<List<NormalFormula>, NoMemory>
     ensures { IfOk result (λ copied. copied ≡ formulas.now) }
 {
     let mut copied = List::new(alloc);

@@ -26,13 +26,15 @@ impl Constructor {
     pub fn same(&self, other: &Constructor) -> bool
         ensures { IsTrue result ↔ (self.now ≡ other.now) }
     {
-        self.name.same(&other.name)
-            && self.arity == other.arity
+        self.name.same(&other.name) && self.arity == other.arity
     }
 }
 
 /// Equal constructors.
-pub fn copy_constructors(alloc: Global, constructors: &[Constructor]) -> Result<List<Constructor>, NoMemory>
+pub fn copy_constructors(
+    alloc: Global,
+    constructors: &[Constructor],
+) -> Result<List<Constructor>, NoMemory>
     ensures { IfOk result (λ copied. copied ≡ constructors.now) }
 {
     let mut copied = List::new(alloc);

@@ -1,4 +1,4 @@
-use Rattle.std.proofs.Common.{◌≡◌, map, ap, ◌∙◌}
+use Rattle.std.proofs.Common.{map, ap, ◌∙◌}
 use Rattle.tf_core.specs.Types.{instantiate}
 use Rattle.tf_core.specs.Substitution.{substitute_term, substitute_types}
 use Rattle.tf_core.proofs.Built.{nnf_true, nnf_false, nnf_atom, nnf_equation, nnf_and, nnf_or, nnf_for_all, nnf_exists}

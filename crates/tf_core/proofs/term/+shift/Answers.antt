@@ -1,4 +1,4 @@
-use Rattle.std.proofs.Common.{◌≡◌, ◌<◌, ◌≤◌, ◌+◌, ◌-◌, rules, map, ap, arith, ◌∙◌}
+use Rattle.std.proofs.Common.{rules, map, ap, ◌∙◌}
 use Rattle.tf_core.specs.declared.term.Term.TheViews.{the_lemmas}
 use Rattle.tf_core.specs.Substitution.{shift}
 use Rattle.tf_core.proofs.Built.{shift_variable, shift_apply, variable_below, arguments_below}
@@ -8,9 +8,10 @@ pub Term::shift-raise-requires : goal.Term::shift-raise-requires
 Term::shift-raise-requires t c = variable_below _ _ _ c.in-Var.is c.requires.bound
 
 pub Term::shift-shifted-requires : goal.Term::shift-shifted-requires
-Term::shift-shifted-requires t c =
-    (search (rules, the_lemmas),
-        rw c.as_slice-in-Apply.ensures (arguments_below _ _ _ _ _ c.in-Apply.is c.requires.bound))
+Term::shift-shifted-requires t c = (
+  search (rules, the_lemmas),
+  rw c.as_slice-in-Apply.ensures (arguments_below _ _ _ _ _ c.in-Apply.is c.requires.bound),
+)
 
 pub Term::shift-returns-in-Var : goal.Term::shift-returns-in-Var
 Term::shift-returns-in-Var t c =

@@ -1,4 +1,4 @@
-use Rattle.std.proofs.Common.{◌≡◌, map, ap, ◌∙◌}
+use Rattle.std.proofs.Common.{map, ap, ◌∙◌}
 use Rattle.tf_core.specs.Types.{instantiate}
 use Rattle.tf_core.specs.Substitution.{substitute_term}
 use Rattle.tf_core.proofs.Built.{term_variable, term_apply}

@@ -8,7 +8,7 @@ Ty::instantiate-returns-in-Var t c =
     record {
       exact =
           subst (λ x. IfOk c.instance_of.result (λ ty. ty ≡ x))
-              (type_variable c.args.types.now c.args.self.now c.in-Var.i c.in-Var.is) c.instance_of.ensures;
+          (type_variable c.args.types.now c.args.self.now c.in-Var.i c.in-Var.is) c.instance_of.ensures;
     }
 
 pub Ty::instantiate-returns-in_ok-arguments-in-Apply :

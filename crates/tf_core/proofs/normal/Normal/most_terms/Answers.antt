@@ -1,4 +1,4 @@
-use Rattle.std.proofs.Common.{◌≡◌, arith, sym, subst}
+use Rattle.std.proofs.Common.{arith, sym, subst}
 use Rattle.std.specs.List.{AllByRecursion}
 use Rattle.tf_core.specs.Counts.{normal_depth}
 use Rattle.tf_core.specs.Sound.{IsSoundFormula}
@@ -11,10 +11,15 @@ nested-requires c =
     record {
       bound = normal_binders_at c.args.self.now.signature _ _ _ c.loop-formula-test.true c.formula-item.is
           (subst (AllByRecursion (IsSoundFormula c.args.self.now.signature))
-              (sym c.as_slice-formula-items.ensures) c.requires.sound.formulas);
+          (sym c.as_slice-formula-items.ensures) c.requires.sound.formulas);
     }
 
 pub loop-formula-preserved : goal.loop-formula-preserved
 loop-formula-preserved c =
-    omega (arith, c.greater-most.ensures, c.loop-formula.invariant, c.nested.ensures.exact,
-        greatest-more (λ formula. normal_depth formula.body) _ _ _ c.loop-formula-test.true c.formula-item.is)
+    omega (
+      arith,
+      c.greater-most.ensures,
+      c.loop-formula.invariant,
+      c.nested.ensures.exact,
+      greatest-more (λ formula. normal_depth formula.body) _ _ _ c.loop-formula-test.true c.formula-item.is,
+    )

@@ -1,4 +1,4 @@
-use Rattle.std.proofs.Common.{◌≡◌, arith, sym, subst}
+use Rattle.std.proofs.Common.{arith, sym, subst}
 use Rattle.std.specs.List.{AllByRecursion}
 use Rattle.tf_core.specs.Counts.{depth}
 use Rattle.tf_core.specs.Sound.{IsSoundStated}
@@ -11,10 +11,15 @@ nested-requires c =
     record {
       bound = binders_at c.args.self.now.signature _ _ _ c.loop-formula-test.true c.formula-item.is
           (subst (AllByRecursion (IsSoundStated c.args.self.now.signature))
-              (sym c.as_slice-formula-items.ensures) c.requires.sound.formulas);
+          (sym c.as_slice-formula-items.ensures) c.requires.sound.formulas);
     }
 
 pub loop-formula-preserved : goal.loop-formula-preserved
 loop-formula-preserved c =
-    omega (arith, c.greater-most.ensures, c.loop-formula.invariant, c.nested.ensures.exact,
-        greatest-more (λ formula. depth formula.body) _ _ _ c.loop-formula-test.true c.formula-item.is)
+    omega (
+      arith,
+      c.greater-most.ensures,
+      c.loop-formula.invariant,
+      c.nested.ensures.exact,
+      greatest-more (λ formula. depth formula.body) _ _ _ c.loop-formula-test.true c.formula-item.is,
+    )
