@@ -13,3 +13,6 @@ pub mod StatedFormulas
 pub mod Typed
 pub mod Checked
 pub mod TypedTerms
+pub mod TypedFormulas
+pub mod TypedNnf
+pub mod TypedProblems

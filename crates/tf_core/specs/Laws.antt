@@ -11,7 +11,10 @@ use Rattle.tf_core.specs.declared.signature.Signature.{Signature}
 use Rattle.tf_core.specs.Types.{type_value, instantiate}
 use Rattle.tf_core.specs.Structures.{Typed, size_of, member_of}
 use Rattle.tf_core.specs.Truth.{value, truth, normal_truth}
-use Rattle.tf_core.specs.Typing.{IsType, IsNnf}
+use Rattle.tf_core.specs.declared.problem.Problem.{Problem}
+use Rattle.tf_core.specs.declared.normal.Normal.{Normal}
+use Rattle.tf_core.specs.Typing.{IsType, IsNnf, IsSignature, IsProblem, IsNormal}
+use Rattle.tf_core.specs.TypingTests.{is_signature, is_problem, is_normal}
 use Rattle.tf_core.specs.Substitution.{shift, substitute_types}
 
 -- a test of a formula's elements holds of each element of a type's member, and of some
@@ -67,3 +70,9 @@ SubstitutionKeepsTruth = (g : Signature) (s : Typed) (members : List ℕ) (insta
     (context : List Ty) (p : Nnf) (elements : List ℕ) → IsNnf g (length instances) context p →
     normal_truth s members (substitute_types instances p) elements
     ≡ normal_truth s (map (member_of s members) instances) p elements
+
+-- the tests of typing say what the relations say
+pub record TypingIsDecided : Type 0 where
+  pub signature : (g : Signature) → IsTrue (is_signature g) ↔ IsSignature g
+  pub problem : (problem : Problem) → IsTrue (is_problem problem) ↔ IsProblem problem
+  pub normal : (normal : Normal) → IsTrue (is_normal normal) ↔ IsNormal normal

@@ -1,4 +1,4 @@
-ghost use Rattle.tf_core.specs.Laws.{UniversalIsTrueOfEach, ExistentialIsTrueOfSome, EntriesStandInBlocks, InstancesHaveValues, ShiftedTermsHaveValues, SubstitutionKeepsTruth};
+ghost use Rattle.tf_core.specs.Laws.{UniversalIsTrueOfEach, ExistentialIsTrueOfSome, EntriesStandInBlocks, InstancesHaveValues, ShiftedTermsHaveValues, SubstitutionKeepsTruth, TypingIsDecided};
 
 /// A universal formula is true exactly where its body is true of each element of the type's member.
 pub fn universal_is_true_of_each()
@@ -29,3 +29,9 @@ pub fn shifted_terms_have_values()
 pub fn substitution_keeps_truth()
     ensures { SubstitutionKeepsTruth }
 {}
+
+/// The tests of typing say what the typing relations say.
+pub fn typing_is_decided()
+    ensures { TypingIsDecided }
+{
+}
