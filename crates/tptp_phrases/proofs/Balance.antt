@@ -7,7 +7,8 @@ use Rattle.std.proofs.Math.Nat.{le_refl, le_of_eq, le_trans}
 use Rattle.tptp_words.specs.declared.word.WordError.{WordError}
 use Rattle.tptp_words.specs.Text.{Token, Placed, tokens}
 use Rattle.tptp_phrases.specs.Phrase.{Phrase, Variant, balanced, open_behind, open_after}
-use Rattle.tptp_phrases.specs.Readers.{Source, seen, Cause, Syntax, Outcome, Reader, goes_on}
+use Rattle.tptp_words.specs.Scanning.{Left}
+use Rattle.tptp_phrases.specs.Readers.{seen, Cause, Syntax, Outcome, Reader, goes_on}
 use Rattle.tptp_phrases.specs.Readers.{enough, skip_from, skip_balanced, unless_none}
 use Rattle.tptp_phrases.proofs.Outcomes.{Stops, Read, Refused, Any, Parses, Reading, IsLater, left_of}
 use Rattle.tptp_phrases.proofs.Outcomes.{Apart}
@@ -182,7 +183,7 @@ module _ (opens closes : Token → Bool) where
       only_here some r h ([], e, o, t) = (sym e, elim t [ inl s ↦ s | inr s ↦ absurd (s refl) ])
       only_here some r h (v ∷ front, e, o, t) = absurd (not_begun v front r 0 h e o)
 
-      here : (K : Type 0) (some : Bool) (s : Source) → seen s ≡ w ∷ ws
+      here : (K : Type 0) (some : Bool) (s : Left) → seen s ≡ w ∷ ws
           → open_behind (opens w) (closes w) n ≡ None
           → Skips {K = K} n some (w ∷ ws) (enough zero some s)
       here K true s is h = record {
@@ -219,7 +220,7 @@ module _ (opens closes : Token → Bool) where
             one_more apart w.token n (tokens ws) K m some (skip_from opens closes m true ws fault) h
             (k m)
 
-    later_enough : (n : ℕ) (some : Bool) (s : Source) → IsLater s (left_of {K = K} (enough n some s))
+    later_enough : (n : ℕ) (some : Bool) (s : Left) → IsLater s (left_of {K = K} (enough n some s))
     later_enough zero true s = not_later s
     later_enough zero false s = not_later s
     later_enough (suc n) some s = not_later s

@@ -1,3 +1,4 @@
 pub mod Strays
 pub mod Grammar
 pub mod Files
+pub mod Descent

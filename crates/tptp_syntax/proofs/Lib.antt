@@ -1,0 +1,5 @@
+pub mod KnownWords
+pub mod SharedRules
+pub mod TypeRules
+pub mod DeclarationRules
+pub mod TermRules
