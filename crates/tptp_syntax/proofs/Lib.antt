@@ -3,3 +3,5 @@ pub mod SharedRules
 pub mod TypeRules
 pub mod DeclarationRules
 pub mod TermRules
+pub mod FormulaRules
+pub mod EntryRules
