@@ -10,6 +10,7 @@ use crate::word::{Word, WordError};
 use std::marker::Model;
 
 /// The words of a text that are left. It takes no memory besides the text that it borrows.
+#[derive(Drop)]
 pub struct Words<'a> {
     text: &'a [u8],
     rest: &'a [u8],
@@ -51,7 +52,9 @@ impl<'a> Words<'a> {
                     return Ok(Some(Word { kind, from, to }));
                 }
                 Piece::End => return Ok(None),
-                Piece::Bad(distance) => return Err(WordError::BadByte { at: from + distance }),
+                Piece::Bad(distance) => return Err(WordError::BadByte {
+                    at: from + distance,
+                }),
                 Piece::Open => return Err(WordError::Unclosed { at: from }),
             }
         }
