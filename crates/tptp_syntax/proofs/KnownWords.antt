@@ -17,7 +17,7 @@ use Rattle.tptp_syntax.specs.Strays.{Stray, connective, connective_of, only_if}
 abbrev pub token : WordKind → List ℕ → Token
 token k s = record { kind = k; spelling = s }
 
-same_texts : (s m : List ℕ) → same s m ≡ true → s ≡ m
+pub same_texts : (s m : List ℕ) → same s m ≡ true → s ≡ m
 same_texts [] [] e = refl
 same_texts [] (b ∷ m) e = cc e
 same_texts (a ∷ s) [] e = cc e

@@ -5,3 +5,5 @@ pub mod DeclarationRules
 pub mod TermRules
 pub mod FormulaRules
 pub mod EntryRules
+pub mod SameTexts
+pub mod WholeFile
