@@ -7,3 +7,4 @@ pub mod FormulaRules
 pub mod EntryRules
 pub mod SameTexts
 pub mod WholeFile
+pub mod Taken
