@@ -8,3 +8,4 @@ pub mod EntryRules
 pub mod SameTexts
 pub mod WholeFile
 pub mod Taken
+pub mod ListsRead
