@@ -2,6 +2,7 @@
 #![tactic(auto)]
 
 mod entry;
+mod entry_reader;
 mod error;
 mod fault;
 mod fixed;
