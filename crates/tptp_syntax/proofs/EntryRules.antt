@@ -37,7 +37,8 @@ use Rattle.tptp_syntax.specs.Strays.{is_role}
 use Rattle.tptp_syntax.specs.Grammar.{Kind, sign, notes, statement, content, entry, file, formula}
 use Rattle.tptp_syntax.specs.Grammar.{declaration}
 use Rattle.tptp_syntax.specs.Descent.{Reads, expect, sees, notes_at, statement_at, content_at, entry_at}
-use Rattle.tptp_syntax.specs.Descent.{any_word, file_at}
+use Rattle.tptp_syntax.specs.Descent.{any_word, file_at, ending_at, annotated_at}
+use Rattle.tptp_phrases.proofs.Forms.{same_trans, same_assoc, same_then, same_given}
 use Rattle.tptp_syntax.proofs.KnownWords.{mark_apart, mark_inside, strays_apart, by_keyword}
 use Rattle.tptp_syntax.proofs.KnownWords.{within_first, within_second, within_self, apart_or}
 use Rattle.tptp_syntax.proofs.TypeRules.{goes_type}
@@ -155,10 +156,30 @@ annotated i =
 comma_apart : Apart (sees (codes ",")) goes_content
 comma_apart = mark_apart (codes ",") goes_content refl
 
-reads_annotated : (b : ℕ) → Reading annotated never b (d.◌>>=◌ (take_word language) (λ l.
-    d.◌>>◌ (expect (codes "(")) (d.◌>>=◌ (take_word label) (λ n. d.◌>>◌ (expect (codes ","))
-    (d.◌>>=◌ (content_at l b n) (λ x. d.◌>>◌ notes_at (d.◌>>◌ (expect (codes ")"))
-    (d.◌>>◌ (expect (codes ".")) (give x)))))))))
+-- what closes an entry
+abbrev closing : Kind → Phrase (Unit {0})
+closing i = notes >> (sign (codes ")") >> (sign (codes ".") >> empty tt))
+
+reads_closing : (b : ℕ) → Reading closing never b ending_at
+reads_closing b =
+    reads_to_word (mark (codes ")")) (λ i _ _. sign (codes ".") >> empty tt)
+    (mark_apart (codes ")") goes_notes refl) (reads_notes b) (λ _.
+    reads_word_then (mark (codes ")")) (λ _. reads_word_then (mark (codes ".")) (λ _.
+    reads_give tt never b)))
+
+given_begins : (x : Entry) (ws : List Token) → (empty x).begins ws ws
+unfolding empty
+given_begins x ws = refl
+
+same_closing : (x : Entry) (i : Kind) → Same (closing i >> empty x)
+    (notes >> (sign (codes ")") >> (sign (codes ".") >> empty x)))
+same_closing x i =
+    same_trans (same_assoc notes _ (λ _. empty x)) (same_then notes (λ _.
+    same_trans (same_assoc (sign (codes ")")) _ (λ _. empty x)) (same_then (sign (codes ")")) (λ _.
+    same_trans (same_assoc (sign (codes ".")) _ (λ _. empty x)) (same_then (sign (codes ".")) (λ _.
+    same_given tt (λ _. empty x) (given_begins x)))))))
+
+reads_annotated : (b : ℕ) → Reading annotated never b (annotated_at b)
 reads_annotated b =
     reads_word_then language (λ l. reads_word_then (mark (codes "(")) (λ _.
     reads_word_then label (λ n. reads_word_then (mark (codes ",")) (λ _.
@@ -168,10 +189,9 @@ reads_annotated b =
     (starts_word_then (mark (codes ",")) _ no_strays)
     (λ _. starts_word_then (mark (codes ")")) _ no_strays) comma_apart
     (mark_apart (codes ")") goes_content refl))
-    (λ x. reads_to_word (mark (codes ")")) (λ i _ _. sign (codes ".") >> empty x)
-    (mark_apart (codes ")") goes_notes refl) (reads_notes b) (λ _.
-    reads_word_then (mark (codes ")")) (λ _. reads_word_then (mark (codes ".")) (λ _.
-    reads_give x never b))))))))
+    (λ x. reads_same (same_closing x)
+    (reads_then (reads_closing b) (λ _. follows_never (λ _. empty x) never)
+    (λ _. reads_give x never b)))))))
 
 same_entry : (i : Kind) → Same (annotated i or stray stray_language i) (entry i)
 unfolding entry

@@ -331,13 +331,19 @@ abbrev pub content_at : Language → ℕ → List ℕ → Reads Entry
 content_at Fof n m = statement_at Fof n m
 content_at Tff n m = tff_content_at n m
 
+-- what closes an entry
+abbrev pub ending_at : Reads (Unit {0})
+ending_at = do
+  notes_at
+  expect (codes ")")
+  expect (codes ".")
+  give tt
+
 -- what stands behind the label, up to the full stop
 abbrev pub closed_content_at : Language → ℕ → List ℕ → Reads Entry
 closed_content_at l n m = do
   x ← content_at l n m
-  notes_at
-  expect (codes ")")
-  expect (codes ".")
+  ending_at
   give x
 
 -- an entry whose language stands next

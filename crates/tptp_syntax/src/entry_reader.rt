@@ -194,6 +194,16 @@ fn content(
     }
 }
 
+/// What closes an entry.
+fn ending(reader: &mut Reader<'_>) -> Result<(), Fault>
+    ensures { Gives (descent.ending_at reader.old) result reader.new }
+{
+    notes(reader)?;
+    reader.expect(Fixed::Close)?;
+    reader.expect(Fixed::Dot)?;
+    Ok(())
+}
+
 /// What stands behind the label, up to the full stop.
 fn closed_content(
     alloc: Global,
@@ -204,9 +214,7 @@ fn closed_content(
     ensures { Gives (descent.closed_content_at language 400 name reader.old) result reader.new }
 {
     let entry = content(alloc, reader, language, name)?;
-    notes(reader)?;
-    reader.expect(Fixed::Close)?;
-    reader.expect(Fixed::Dot)?;
+    ending(reader)?;
     Ok(entry)
 }
 

@@ -9,6 +9,7 @@ mod fixed;
 mod formula;
 mod formula_reader;
 mod language;
+mod read;
 mod reader;
 mod spelled;
 mod term;
@@ -18,6 +19,8 @@ mod types;
 
 pub use entry::{Entry, File, StatedRole};
 pub use error::ReadError;
+pub use entry_reader::MAX_NESTING;
 pub use formula::RawFormula;
+pub use read::{MAX_BYTES, read_file};
 pub use term::RawTerm;
 pub use types::{Bound, TypeExpr};
