@@ -11,3 +11,5 @@ pub mod Taken
 pub mod ListsRead
 pub mod SkippedWords
 pub mod GrammarFronts
+pub mod OneAnswer
+pub mod Verdicts

@@ -33,7 +33,7 @@ is_empty : (ws : List Token) → length ws ≤ 0 → ws ≡ []
 is_empty [] h = refl
 is_empty (w ∷ ws) h = absurd (omega arith)
 
-abbrev Ends : {A : Type 0} → Outcome stray.Stray A → Type 0
+abbrev pub Ends : {A : Type 0} → Outcome stray.Stray A → Type 0
 Ends (Ok x) = seen x.1 ≡ []
 Ends (Err e) = Unit {0}
 
@@ -66,7 +66,7 @@ seen_words : (ws : List Placed) → length (tokens ws) ≤ length ws
 seen_words [] = le_refl 0
 seen_words (w ∷ ws) = let less = seen_words ws in omega arith
 
-read_ends : (b : ℕ) (s : Left) → Ends (file_at b s)
+pub read_ends : (b : ℕ) (s : Left) → Ends (file_at b s)
 unfolding file_at seq give many_at
 read_ends b s =
     go (many_from any_word (entry_at b) (length s.words) [] s)
@@ -85,12 +85,12 @@ short w after rest e h =
     let k : length (w ∷ after) ≤ length after = subst (λ z. length z ≤ length after) e h in
     omega arith
 
-whole_begins : (i : Kind) (ws rest : List Token) (f : File) → (file i).derives ws rest f
+pub whole_begins : (i : Kind) (ws rest : List Token) (f : File) → (file i).derives ws rest f
     → (file i).begins ws rest
 unfolding file ◌>>=◌ empty many
 whole_begins i ws rest f (m, es, row, e) = inr (m, es, row, e.0)
 
-no_words : (ws : List Placed) → tokens ws ≡ [] → ws ≡ []
+pub no_words : (ws : List Placed) → tokens ws ≡ [] → ws ≡ []
 no_words [] e = refl
 no_words (w ∷ ws) e = cc e
 
@@ -98,7 +98,7 @@ module _ (total : ℕ) (ws : List Token) where
   -- a word at which the words begin no file within the limit
   module _ (w : Placed) (after : List Placed) (N : Kind → Type 0)
       (h : Refused file any_word most_nesting N ws (w.token ∷ tokens after)) where
-    not_begun : (i : Kind) → N i → (file i).begins ws (tokens after) → ⊥
+    pub not_begun : (i : Kind) → N i → (file i).begins ws (tokens after) → ⊥
     not_begun i n b = short w.token (tokens after) (w.token ∷ tokens after) refl (h.within i (tokens after) n b)
 
   -- a stray word of the kind, and none that the grammar takes

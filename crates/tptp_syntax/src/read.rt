@@ -1,13 +1,13 @@
 //! Files are read from texts.
 
-ghost use Rattle.std.specs.Prelude.{◌≡◌, ◌≢◌, ◌<◌, ◌≤◌, Ok, Err, IfOk, length};
+ghost use Rattle.std.specs.Prelude.{◌≡◌, ◌≢◌, ◌<◌, ◌≤◌, Ok, Err, IfOk, IfErr, length};
 ghost use Rattle.tptp_words.specs.Text.{IsText};
 ghost use Rattle.tptp_syntax.specs.declared.fault.Fault.TheVariants as fault_kind;
 ghost use Rattle.tptp_syntax.specs.declared.error.ReadError.TheVariants.{Memory, TooLong};
 ghost use Rattle.tptp_syntax.specs.Descent as descent;
 ghost use Rattle.tptp_syntax.specs.Ahead.{cause};
 ghost use Rattle.tptp_syntax.specs.Answers as answers;
-ghost use Rattle.tptp_syntax.specs.Files.{Verdict, SpellsWithin, most_bytes, most_nesting};
+ghost use Rattle.tptp_syntax.specs.Files.{Verdict, SpellsWithin, IsRefused, most_bytes, most_nesting};
 
 use crate::entry::File;
 use crate::entry_reader::file;
@@ -81,6 +81,8 @@ fn read(alloc: Global, reader: &mut Reader<'_>, total: usize) -> Result<File, Re
 pub fn read_file(alloc: Global, text: &[u8]) -> Result<File, ReadError>
     ensures verdict { result ≢ Err Memory → Verdict text.now result }
     ensures exact { IfOk result (λ file. SpellsWithin most_nesting text.now file) }
+    ensures kept { (file : _) → length text.now ≤ most_bytes → SpellsWithin most_nesting text.now file → result ≢ Err Memory → result ≡ Ok file }
+    ensures refused { IfErr result (λ e. e ≢ Memory → length text.now ≤ most_bytes → IsRefused text.now e) }
     ensures too_long { most_bytes < length text.now → result ≡ Err (TooLong (length text.now)) }
 {
     if text.len() > MAX_BYTES {
