@@ -1,8 +1,8 @@
 -- Where words begin a phrase, so do their fronts.
 use Rattle.std.proofs.Common.{◌+◌}
-use Rattle.std.proofs.Common.{◌≡◌, ℕ, zero, suc, ◌≤◌, ◌⊎◌, inl, inr, List, [], ◌∷◌, ◌++◌, Bool, true}
-use Rattle.std.proofs.Common.{false, length, Option, Some, None, refl, sym, ap, subst, arith, ◌∙◌}
-use Rattle.std.proofs.Common.{append_assoc, append-nil, length-append}
+use Rattle.std.proofs.Common.{◌≡◌, ℕ, zero, suc, ◌≤◌, ◌⊎◌, inl, inr, List, [], ◌∷◌, ◌++◌, Bool}
+use Rattle.std.proofs.Common.{length, Option, Some, None, refl, sym, ap, subst, arith, ◌∙◌}
+use Rattle.std.proofs.Common.{append_assoc, length-append}
 use Rattle.tptp_words.specs.Text.{Token}
 use Rattle.tptp_phrases.specs.Phrase.{Phrase, Variant, empty, nothing, word, stray, ◌>>=◌, ◌or◌, many}
 use Rattle.tptp_phrases.specs.Phrase.{Row, balanced, open_behind, open_after, Rule, levels}
@@ -81,7 +81,7 @@ closed_word {A} f = record {
   begun_front = λ ws r i. elim i [ inl e ↦ same_front ws r e | inr j ↦ (j.0 ∷ [], j.2) ];
   whole = λ ws m r x d a b. go ws m r d.0 x d.1 d.2 (one_word d.0 ws m r d.1 a b);
   begun = λ ws m r i a b. elim i [
-    inl e ↦ inl (between_same ws m a (subst (λ z. Front m z) (sym e) b))
+    | inl e ↦ inl (between_same ws m a (subst (λ z. Front m z) (sym e) b))
     | inr j ↦ go ws m r j.0 j.1 j.2 j.3 (one_word j.0 ws m r j.2 a b)
   ];
 }
@@ -100,7 +100,7 @@ closed_stray {K} kind v = record {
   begun_front = λ ws r i. elim i [ inl e ↦ same_front ws r e | inr j ↦ (j.0 ∷ [], j.2) ];
   whole = λ ws m r x d a b. absurd d;
   begun = λ ws m r i a b. elim i [
-    inl e ↦ inl (between_same ws m a (subst (λ z. Front m z) (sym e) b))
+    | inl e ↦ inl (between_same ws m a (subst (λ z. Front m z) (sym e) b))
     | inr j ↦ go ws m r j.0 j.1 j.2 j.3 j.4 (one_word j.0 ws m r j.2 a b)
   ];
 }
@@ -118,18 +118,18 @@ closed_bind p f h k = record {
   whole_front = λ ws r x (m, a, d, e).
       front_trans (h.whole_front ws m a d) ((k a).whole_front m r x e);
   begun_front = λ ws r i. elim i [
-    inl j ↦ h.begun_front ws r j
+    | inl j ↦ h.begun_front ws r j
     | inr j ↦ front_trans (h.whole_front ws j.0 j.1 j.2) ((k j.1).begun_front j.0 r j.3)
   ];
   whole = λ ws m r x (n, a, d, e) i j.
       elim (ordered ws m n i (h.whole_front ws n a d)) [
-        inl before ↦ inl (h.whole ws m n a d i before)
+        | inl before ↦ inl (h.whole ws m n a d i before)
         | inr behind ↦ inr (n, a, d, (k a).whole n m r x e behind j)
       ];
   begun = λ ws m r b i j. elim b [
-    inl c ↦ inl (h.begun ws m r c i j)
+    | inl c ↦ inl (h.begun ws m r c i j)
     | inr c ↦ elim (ordered ws m c.0 i (h.whole_front ws c.0 c.1 c.2)) [
-      inl before ↦ inl (h.whole ws m c.0 c.1 c.2 i before)
+      | inl before ↦ inl (h.whole ws m c.0 c.1 c.2 i before)
       | inr behind ↦ inr (c.0, c.1, c.2, (k c.1).begun c.0 m r c.3 behind j)
     ]
   ];
@@ -139,14 +139,17 @@ pub closed_or : {A : Type 0} (p q : Phrase A) → Closed p → Closed q → Clos
 unfolding ◌or◌
 closed_or p q h k = record {
   whole_front = λ ws r x d. elim d [
-    inl i ↦ h.whole_front ws r x i | inr i ↦ k.whole_front ws r x i
+    | inl i ↦ h.whole_front ws r x i
+    | inr i ↦ k.whole_front ws r x i
   ];
   begun_front = λ ws r d. elim d [ inl i ↦ h.begun_front ws r i | inr i ↦ k.begun_front ws r i ];
   whole = λ ws m r x d a b. elim d [
-    inl i ↦ inl (h.whole ws m r x i a b) | inr i ↦ inr (k.whole ws m r x i a b)
+    | inl i ↦ inl (h.whole ws m r x i a b)
+    | inr i ↦ inr (k.whole ws m r x i a b)
   ];
   begun = λ ws m r d a b. elim d [
-    inl i ↦ inl (h.begun ws m r i a b) | inr i ↦ inr (k.begun ws m r i a b)
+    | inl i ↦ inl (h.begun ws m r i a b)
+    | inr i ↦ inr (k.begun ws m r i a b)
   ];
 }
 
@@ -162,8 +165,13 @@ module _ {A : Type 0} (p : Phrase A) (h : Closed p) where
 
   behind_item : (ws n m : List Token) (x : A) → p.derives ws n x → Begun n m → Begun ws m
   behind_item ws n m x d (inl e) =
-      inr (ws, [], refl, subst (λ z. p.begins ws z) e
-      (h.whole ws n n x d (h.whole_front ws n x d) (no_front n)))
+      inr (
+        ws,
+        [],
+        refl,
+        subst (λ z. p.begins ws z) e
+            (h.whole ws n n x d (h.whole_front ws n x d) (no_front n)),
+      )
   behind_item ws n m x d (inr (k, xs, row, i)) = inr (k, x ∷ xs, (n, d, row), i)
 
   row_begun : (ws m r : List Token) (xs : List A) → Row p ws r xs → Front ws m → Front m r
@@ -171,7 +179,7 @@ module _ {A : Type 0} (p : Phrase A) (h : Closed p) where
   row_begun ws m r [] e a b = inl (between_same ws m a (subst (λ z. Front m z) (sym e) b))
   row_begun ws m r (x ∷ xs) (n, d, row) a b =
       elim (ordered ws m n a (h.whole_front ws n x d)) [
-        inl before ↦ inr (ws, [], refl, h.whole ws m n x d a before)
+        | inl before ↦ inr (ws, [], refl, h.whole ws m n x d a before)
         | inr behind ↦ behind_item ws n m x d (row_begun n m r xs row behind b)
       ]
 
@@ -179,7 +187,7 @@ module _ {A : Type 0} (p : Phrase A) (h : Closed p) where
       → Front m r → Begun ws m
   more_begun ws m r n xs row i a b =
       elim (ordered ws m n a (row_front ws n xs row)) [
-        inl before ↦ row_begun ws m n xs row a before
+        | inl before ↦ row_begun ws m n xs row a before
         | inr behind ↦ inr (n, xs, row, h.begun n m r i behind b)
       ]
 
@@ -188,12 +196,12 @@ module _ {A : Type 0} (p : Phrase A) (h : Closed p) where
   closed_many = record {
     whole_front = λ ws r xs row. row_front ws r xs row;
     begun_front = λ ws r i. elim i [
-      inl e ↦ same_front ws r e
+      | inl e ↦ same_front ws r e
       | inr j ↦ front_trans (row_front ws j.0 j.1 j.2) (h.begun_front j.0 r j.3)
     ];
     whole = λ ws m r xs row a b. row_begun ws m r xs row a b;
     begun = λ ws m r i a b. elim i [
-      inl e ↦ inl (between_same ws m a (subst (λ z. Front m z) (sym e) b))
+      | inl e ↦ inl (between_same ws m a (subst (λ z. Front m z) (sym e) b))
       | inr j ↦ more_begun ws m r j.0 j.1 j.2 j.3 a b
     ];
   }

@@ -1,46 +1,39 @@
 -- The readers of entries and files read them.
-use Rattle.std.proofs.Common.{◌≡◌, ℕ, zero, suc, List, [], ◌∷◌, ◌++◌, Bool, true, false, ◌||◌, length}
-use Rattle.std.proofs.Common.{Option, Some, None, is_some, refl, ◌≤◌, arith, if◌then◌else◌}
+use Rattle.std.proofs.Common.{◌≡◌, ℕ, List, [], ◌∷◌, ◌++◌, Bool, true, false, ◌||◌}
+use Rattle.std.proofs.Common.{Some, None, is_some, refl, arith, if◌then◌else◌}
 use Rattle.std.specs.Prelude.{codes}
 use Rattle.tptp_words.specs.declared.word.WordKind.{WordKind}
 use Rattle.tptp_words.specs.declared.word.WordKind.TheVariants as kind
 use Rattle.tptp_words.specs.Text.{Token}
-use Rattle.tptp_words.specs.Words.{name, mark, keyword, same}
-use Rattle.tptp_phrases.specs.Phrase.{Phrase, Variant, empty, word, stray, ◌>>=◌, ◌>>◌, ◌or◌, many}
+use Rattle.tptp_words.specs.Words.{mark, keyword, same}
+use Rattle.tptp_phrases.specs.Phrase.{Phrase, empty, word, stray, ◌>>=◌, ◌>>◌, ◌or◌, many}
 use Rattle.tptp_phrases.specs.Phrase.{balanced}
-use Rattle.tptp_phrases.specs.Readers.{Reader, no_strays, takes, take_word, give, choose, refuse_stray}
-use Rattle.tptp_phrases.specs.Readers.{skip_balanced, many_at}
-use Rattle.tptp_phrases.specs.Readers as d
-use Rattle.tptp_phrases.proofs.Outcomes.{Reading, Starts, Opens, Apart, Within, Inside, StraysApart}
-use Rattle.tptp_phrases.proofs.Outcomes.{Follows, never}
+use Rattle.tptp_phrases.specs.Readers.{no_strays, takes}
+use Rattle.tptp_phrases.proofs.Outcomes.{Reading, Starts, Apart, StraysApart}
+use Rattle.tptp_phrases.proofs.Outcomes.{never}
 use Rattle.tptp_phrases.proofs.Sequences.{reads_then, reads_give}
 use Rattle.tptp_phrases.proofs.Forms.{Same, reads_same, starts_same, same_map, same_path}
-use Rattle.tptp_phrases.proofs.Firsts.{opens_word, opens_bind, opens_or_stray, starts_bind}
+use Rattle.tptp_phrases.proofs.Firsts.{opens_word, opens_bind, opens_or_stray}
 use Rattle.tptp_phrases.proofs.Firsts.{starts_or_stray, follows_empty, follows_never}
 use Rattle.tptp_phrases.proofs.Choices.{reads_word_then, starts_word_then, reads_optional}
 use Rattle.tptp_phrases.proofs.Choices.{reads_to_word, reads_or, reads_or_stray, off_starts_stray}
-use Rattle.tptp_phrases.proofs.Choices.{reads_within, follows_optional}
+use Rattle.tptp_phrases.proofs.Choices.{follows_optional}
 use Rattle.tptp_phrases.proofs.Repetition.{Repeats, reads_more, more}
 use Rattle.tptp_phrases.proofs.Balance.{goes_balanced, reads_balanced}
-use Rattle.tptp_syntax.specs.declared.types.TypeExpr.{TypeExpr}
 use Rattle.tptp_syntax.specs.declared.entry.Entry.{Entry}
 use Rattle.tptp_syntax.specs.declared.entry.Entry.TheVariants as e
-use Rattle.tptp_syntax.specs.declared.entry.File.{File}
-use Rattle.tptp_syntax.specs.declared.entry.StatedRole.{StatedRole}
 use Rattle.tptp_syntax.specs.declared.entry.StatedRole.TheVariants.{Hypothesis, Conjecture}
 use Rattle.tptp_syntax.specs.declared.language.Language.{Language}
 use Rattle.tptp_syntax.specs.declared.language.Language.TheVariants.{Tff, Fof}
 use Rattle.tptp_syntax.specs.Strays.{Stray, OfRole, OfInclude, OfLanguage, label, language, role}
 use Rattle.tptp_syntax.specs.Strays.{stray_language, stray_role, is_one_of, hypotheses, only_if}
 use Rattle.tptp_syntax.specs.Strays.{unless, language_of, role_of, stray_language_of, stray_role_of}
-use Rattle.tptp_syntax.specs.Strays.{is_role}
 use Rattle.tptp_syntax.specs.Grammar.{Kind, sign, notes, statement, content, entry, file, formula}
-use Rattle.tptp_syntax.specs.Grammar.{declaration}
-use Rattle.tptp_syntax.specs.Descent.{Reads, expect, sees, notes_at, statement_at, content_at, entry_at}
+use Rattle.tptp_syntax.specs.Descent.{sees, notes_at, statement_at, content_at, entry_at}
 use Rattle.tptp_syntax.specs.Descent.{any_word, file_at, ending_at, annotated_at}
 use Rattle.tptp_phrases.proofs.Forms.{same_trans, same_assoc, same_then, same_given}
 use Rattle.tptp_syntax.proofs.KnownWords.{mark_apart, mark_inside, strays_apart, by_keyword}
-use Rattle.tptp_syntax.proofs.KnownWords.{within_first, within_second, within_self, apart_or}
+use Rattle.tptp_syntax.proofs.KnownWords.{within_first, within_second, within_self}
 use Rattle.tptp_syntax.proofs.TypeRules.{goes_type}
 use Rattle.tptp_syntax.proofs.DeclarationRules.{reads_declaration}
 use Rattle.tptp_syntax.proofs.FormulaRules.{goes_formula, reads_formula}

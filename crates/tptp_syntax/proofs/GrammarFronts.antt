@@ -1,9 +1,8 @@
 -- Where words begin a file, so do their fronts.
-use Rattle.std.proofs.Common.{ℕ, List, [], ◌∷◌, ◌++◌, Option, Some, None}
+use Rattle.std.proofs.Common.{ℕ, List, [], ◌∷◌, Some, None}
 use Rattle.std.specs.Prelude.{codes}
-use Rattle.tptp_words.specs.Text.{Token}
 use Rattle.tptp_words.specs.Words.{name, variable, mark, keyword, dollar}
-use Rattle.tptp_phrases.specs.Phrase.{Phrase, Variant, empty, word, stray, ◌>>=◌, ◌>>◌, ◌or◌, many}
+use Rattle.tptp_phrases.specs.Phrase.{Phrase, empty, word, ◌>>=◌, ◌>>◌}
 use Rattle.tptp_phrases.specs.Phrase.{deeper, nested}
 use Rattle.tptp_phrases.proofs.Fronts.{Closed, closed_empty, closed_word, closed_stray, closed_bind}
 use Rattle.tptp_phrases.proofs.Fronts.{closed_or, closed_many, closed_balanced, closed_levels}

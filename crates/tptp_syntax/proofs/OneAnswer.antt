@@ -1,5 +1,5 @@
 -- A text has at most one verdict: that of the reader of files.
-use Rattle.std.proofs.Common.{◌≡◌, ◌≢◌, ℕ, zero, suc, ◌+◌, ◌≤◌, ◌<◌, ◌⊎◌, inl, inr, List, [], ◌∷◌}
+use Rattle.std.proofs.Common.{◌≡◌, ◌≢◌, ℕ, suc, ◌+◌, ◌≤◌, ◌<◌, ◌⊎◌, inl, inr, List, [], ◌∷◌}
 use Rattle.std.proofs.Common.{◌++◌, length, Option, Some, None, Result, Ok, Err, refl, sym, ◌∙◌, subst}
 use Rattle.std.proofs.Common.{ap, arith, length-append, append_assoc}
 use Rattle.std.proofs.Math.Nat.{le_refl}
@@ -9,7 +9,7 @@ use Rattle.tptp_words.specs.Text.{Token, Placed, tokens, IsText}
 use Rattle.tptp_words.specs.Scanning.{Left}
 use Rattle.tptp_words.proofs.OneText.{one_text}
 use Rattle.tptp_phrases.specs.Readers.{Cause, Syntax, TooDeep, Stray, Outcome, seen}
-use Rattle.tptp_phrases.proofs.Outcomes.{Parses, Read, Refused, Deeper, Fails, Any, At, Leaves, Takes}
+use Rattle.tptp_phrases.proofs.Outcomes.{Parses, Fails, Any, Leaves}
 use Rattle.tptp_phrases.proofs.Outcomes.{Stops, IsLater, left_of}
 use Rattle.tptp_phrases.proofs.Fronts.{Front, ordered}
 use Rattle.tptp_syntax.specs.declared.entry.File.{File}
@@ -21,9 +21,9 @@ use Rattle.tptp_syntax.specs.Descent.{any_word, file_at}
 use Rattle.tptp_syntax.specs.Files.{strict, taking, DeriveWithin, Derive, SpellsWithin, Spells}
 use Rattle.tptp_syntax.specs.Files.{BeginWithin, Begin, BeginTaking, IsStrayOf, WordRefused, RefusedAt}
 use Rattle.tptp_syntax.specs.Files.{IsRefused, Verdict, most_bytes, most_nesting}
-use Rattle.tptp_syntax.specs.Answers.{refused_at, stopped_by, refusal, unless_stopped, answer}
+use Rattle.tptp_syntax.specs.Answers.{refused_at, refusal, unless_stopped, answer}
 use Rattle.tptp_syntax.proofs.EntryRules.{reads_file}
-use Rattle.tptp_syntax.proofs.WholeFile.{Ends, read_ends, not_begun, whole_begins, no_words}
+use Rattle.tptp_syntax.proofs.WholeFile.{Ends, read_ends, not_begun, whole_begins}
 use Rattle.tptp_syntax.proofs.GrammarFronts.{closed_file}
 
 -- ---- at most one file
@@ -122,7 +122,8 @@ module _ (s : Left) (o : Outcome stray.Stray File)
       → (BeginWithin most_nesting (seen s) ws → ⊥) → length ws < length (seen (left_of o))
   not_passed ws f none =
       elim (ordered (seen s) ws (seen (left_of o)) f seen_front) [
-        inl before ↦ absurd (begun_before before) | inr behind ↦ shorter behind
+        | inl before ↦ absurd (begun_before before)
+        | inr behind ↦ shorter behind
       ]
     where
       begun_before : Front ws (seen (left_of o)) → ⊥
@@ -199,11 +200,10 @@ module _ (ws : List Token) (next : Placed) (after : List Placed) where
 
   begun_deeper : Why TooDeep → Begin ws (tokens after)
   begun_deeper h =
-      let is = h.1.is in let same : tokens after ≡ h.1.after = cc is in
-      (
+      let is = h.1.is in let same : tokens after ≡ h.1.after = cc is in (
         most_nesting + h.1.enough,
         subst (λ z. BeginWithin (most_nesting + h.1.enough) ws z) (sym same)
-        (h.1.begun (strict (most_nesting + h.1.enough)) tt (le_refl (most_nesting + h.1.enough))),
+            (h.1.begun (strict (most_nesting + h.1.enough)) tt (le_refl (most_nesting + h.1.enough))),
       )
 
   not_begun_stray : (k : stray.Stray) → Why (Stray k) → Begin ws (tokens after) → ⊥
@@ -212,12 +212,11 @@ module _ (ws : List Token) (next : Placed) (after : List Placed) where
 
   begun_stray : (k : stray.Stray) → Why (Stray k) → BeginTaking k ws (tokens after)
   begun_stray k h =
-      let is = h.1.is in let same : tokens after ≡ h.1.after = cc is in
-      (
+      let is = h.1.is in let same : tokens after ≡ h.1.after = cc is in (
         most_nesting + h.1.enough,
         subst (λ z. (file (taking k (most_nesting + h.1.enough))).begins ws z) (sym same)
-        (h.1.begun (taking k (most_nesting + h.1.enough)) refl
-        (le_refl (most_nesting + h.1.enough))),
+            (h.1.begun (taking k (most_nesting + h.1.enough)) refl
+            (le_refl (most_nesting + h.1.enough))),
       )
 
   -- a word is astray in one way alone
@@ -227,7 +226,7 @@ module _ (ws : List Token) (next : Placed) (after : List Placed) where
   one_stray TooDeep l h a = absurd (a.0 (begun_deeper h))
   one_stray (Stray k) l h a =
       elim (same_kind k l) [
-        inl e ↦ ap Stray e
+        | inl e ↦ ap Stray e
         | inr n ↦ absurd (not_begun most_nesting ws next after (Leaves k) h.0 (taking l a.1.0) n a.1.1)
       ]
 
@@ -291,7 +290,7 @@ module _ (text : List ℕ) (s : Left) (is_text : IsText (length text) text s.wor
   refused_answer : (e : ReadError) → IsRefused text e → answer (length text) outcome ≡ Err e
   refused_answer e h =
       let same = one_text (length text) text s.words (h.front ++ h.rest) s.fault h.fault is_text
-          h.is_text in
+      h.is_text in
       go outcome parses later (read_ends most_nesting s) h.rest same.0
       (subst (λ z. BeginWithin most_nesting (tokens z) (tokens h.rest)) (sym same.0) h.begun)
       (subst (λ z. RefusedAt (length text) (tokens z) h.rest h.fault e) (sym same.0) h.refused)

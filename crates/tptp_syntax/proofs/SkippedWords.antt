@@ -1,12 +1,10 @@
 -- The words of notes, skipped one by one.
-use Rattle.std.proofs.Common.{◌≡◌, ℕ, zero, suc, ◌<◌, List, [], ◌∷◌, Bool, true, false, Option, Some}
-use Rattle.std.proofs.Common.{None, refl, sym, ap, ◌∙◌, length, arith, Err}
-use Rattle.std.specs.Prelude.{codes, is_some}
+use Rattle.std.proofs.Common.{◌≡◌, ℕ, zero, ◌<◌, List, [], ◌∷◌, Bool, true, false, Option, Some}
+use Rattle.std.proofs.Common.{None, refl, ap, length, arith}
+use Rattle.std.specs.Prelude.{codes}
 use Rattle.tptp_words.specs.declared.word.WordError.{WordError}
 use Rattle.tptp_words.specs.Text.{Token, Placed, tokens}
-use Rattle.tptp_words.specs.Words.{mark}
 use Rattle.tptp_words.specs.Scanning.{Left}
-use Rattle.tptp_phrases.specs.Phrase.{open_behind}
 use Rattle.tptp_phrases.specs.Readers.{Outcome, Syntax, seen, goes_on, stray_cause, no_strays, enough}
 use Rattle.tptp_phrases.specs.Readers.{skip_from, unless_none}
 use Rattle.tptp_syntax.specs.Strays.{Stray}

@@ -1,9 +1,8 @@
 -- What verdicts promise one another, and what they say of an answer.
-use Rattle.std.proofs.Common.{◌≡◌, ◌≢◌, ℕ, ◌≤◌, ◌<◌, ◌⊎◌, inl, inr, List, [], ◌∷◌, ◌++◌, length}
-use Rattle.std.proofs.Common.{Option, Some, None, Result, Ok, Err, refl, sym, ◌∙◌, subst, ap, arith}
+use Rattle.std.proofs.Common.{◌≡◌, ◌≢◌, ℕ, ◌≤◌, ◌<◌, ◌⊎◌, inl, inr, List, [], ◌++◌, length}
+use Rattle.std.proofs.Common.{None, Result, Ok, Err, refl, sym, ◌∙◌, subst, ap, arith}
 use Rattle.std.specs.Prelude.{IfOk, IfErr}
-use Rattle.tptp_words.specs.declared.word.WordError.{WordError}
-use Rattle.tptp_words.specs.Text.{Token, Placed, IsText}
+use Rattle.tptp_words.specs.Text.{Token, IsText}
 use Rattle.tptp_words.specs.Scanning.{Left}
 use Rattle.tptp_phrases.specs.Readers.{Outcome, seen}
 use Rattle.tptp_syntax.specs.declared.entry.File.{File}
@@ -25,7 +24,7 @@ pub read_answer : (total : ℕ) (s : Left) (f : File) (u : Left) → file_at mos
 read_answer total s f u e h =
     let ends : seen u ≡ [] = subst (λ (o : Outcome Stray File). Ends o) e (read_ends most_nesting s) in
     let none : u.fault ≡ None =
-        sym (ap (λ z. fault_first z u.fault) (no_words u.words ends)) ∙ h in
+    sym (ap (λ z. fault_first z u.fault) (no_words u.words ends)) ∙ h in
     ap (answer total) e ∙ ap (λ z. unless_stopped f z) none
 
 -- ---- at most one verdict

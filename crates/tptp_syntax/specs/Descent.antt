@@ -1,11 +1,10 @@
 -- The readers of the grammar's rules. Each takes the next word as it finds it.
-use Rattle.std.specs.Prelude.{◌≡◌, ◌≢◌, ℕ, List, [], ◌∷◌, Bool, true, ◌||◌, length, Option, Some}
-use Rattle.std.specs.Prelude.{None, codes, Result, Ok, Err}
+use Rattle.std.specs.Prelude.{ℕ, List, [], ◌∷◌, Bool, true, ◌||◌, length, Option, Some}
+use Rattle.std.specs.Prelude.{None, codes}
 use Rattle.tptp_words.specs.Text.{Token}
 use Rattle.tptp_words.specs.Words.{name, variable, mark, keyword, dollar}
-use Rattle.tptp_words.specs.Scanning.{Left}
-use Rattle.tptp_phrases.specs.Readers.{Cause, Syntax, TooDeep, Stray, Outcome, Reader, ◌>>=◌, ◌>>◌}
-use Rattle.tptp_phrases.specs.Readers.{seq, give, takes, take_word, goes_on, choose, many_at, behind}
+use Rattle.tptp_phrases.specs.Readers.{Reader, ◌>>=◌, ◌>>◌}
+use Rattle.tptp_phrases.specs.Readers.{give, takes, take_word, choose, many_at, behind}
 use Rattle.tptp_phrases.specs.Readers.{no_strays, refuse_stray, levels_at, skip_balanced}
 use Rattle.tptp_syntax.specs.declared.types.TypeExpr.{TypeExpr}
 use Rattle.tptp_syntax.specs.declared.types.TypeExpr.TheVariants as y

@@ -133,11 +133,7 @@ fn notes(reader: &mut Reader<'_>) -> Result<(), Fault>
     Ok(())
 }
 
-fn formula(
-    alloc: Global,
-    reader: &mut Reader<'_>,
-    language: Language,
-) -> Result<RawFormula, Fault>
+fn formula(alloc: Global, reader: &mut Reader<'_>, language: Language) -> Result<RawFormula, Fault>
     ensures { Gives (descent.formula_at language 400 reader.old) result reader.new }
 {
     formula_inside(alloc, reader, language, MAX_NESTING + 1)

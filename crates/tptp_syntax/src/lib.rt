@@ -19,10 +19,13 @@ mod type_reader;
 mod types;
 
 pub use entry::{Entry, File, StatedRole};
-pub use error::ReadError;
 pub use entry_reader::MAX_NESTING;
+pub use error::ReadError;
 pub use formula::RawFormula;
 pub use laws::{a_text_spells_one_file, fronts_begin_a_file, one_verdict, words_derive_one_file};
 pub use read::{MAX_BYTES, read_file};
 pub use term::RawTerm;
 pub use types::{Bound, TypeExpr};
+
+#[cfg(test)]
+mod tests;

@@ -86,9 +86,7 @@ pub fn read_file(alloc: Global, text: &[u8]) -> Result<File, ReadError>
     ensures too_long { most_bytes < length text.now → result ≡ Err (TooLong (length text.now)) }
 {
     if text.len() > MAX_BYTES {
-        return Err(ReadError::TooLong {
-            length: text.len(),
-        });
+        return Err(ReadError::TooLong { length: text.len() });
     }
     let mut reader = Reader::new(text);
     read(alloc, &mut reader, text.len())

@@ -16,8 +16,8 @@ items-init c =
 pub returns-in_err-item : goal.returns-in_err-item
 returns-in_err-item c =
     let k : c.in_err-item.field-0.0 ≢ Memory
-        → many_at descent.any_word (descent.entry_at 400) [] c.args.reader.now
-        ≡ Err (cause c.in_err-item.field-0.0, c.entry.new.reader) =
+    → many_at descent.any_word (descent.entry_at 400) [] c.args.reader.now
+    ≡ Err (cause c.in_err-item.field-0.0, c.entry.new.reader) =
     λ m. one_fails (entries 400) _ c.items.found c.items.reader c.items.invariant _
     (sym c.sees_word.ensures ∙ c.items-test.true) (c.in_err-item.ensures m) in
     first_of (search rules, grind (arith, common_steps))

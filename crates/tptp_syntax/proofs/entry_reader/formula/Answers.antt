@@ -1,4 +1,4 @@
-use Rattle.std.proofs.Common.{sym, subst}
+use Rattle.std.proofs.Common.{subst}
 use Rattle.tptp_syntax.specs.Ahead.{Gives}
 use Rattle.tptp_syntax.proofs.FormulaRules.{top_formula}
 use Rattle.tptp_syntax.proofs.entry_reader.formula.Goals as goal

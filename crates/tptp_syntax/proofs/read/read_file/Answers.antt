@@ -7,7 +7,7 @@ use Rattle.tptp_syntax.proofs.read.read_file.Goals as goal
 pub returns-clause-verdict : goal.returns-clause-verdict
 returns-clause-verdict c m =
     let fits : length c.args.text.now ≤ most_bytes =
-        let long = c.if-text-gt-MAX_BYTES.false in omega arith in
+    let long = c.if-text-gt-MAX_BYTES.false in omega arith in
     subst (λ a. Verdict c.args.text.now a) (sym (c.read.ensures m))
     (verdict c.args.text.now c.new-reader.result c.new-reader.ensures fits)
 
