@@ -1,0 +1,12 @@
+pub mod Outcomes
+pub mod Sequences
+pub mod SingleWords
+pub mod Forms
+pub mod Firsts
+pub mod Choices
+pub mod Repetition
+pub mod Levels
+pub mod Limits
+pub mod Balance
+pub mod Turns
+pub mod Fronts

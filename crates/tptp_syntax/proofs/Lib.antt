@@ -1,0 +1,15 @@
+pub mod KnownWords
+pub mod SharedRules
+pub mod TypeRules
+pub mod DeclarationRules
+pub mod TermRules
+pub mod FormulaRules
+pub mod EntryRules
+pub mod SameTexts
+pub mod WholeFile
+pub mod Taken
+pub mod ListsRead
+pub mod SkippedWords
+pub mod GrammarFronts
+pub mod OneAnswer
+pub mod Verdicts
