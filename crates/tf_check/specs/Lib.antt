@@ -9,3 +9,4 @@ pub mod Signature
 pub mod Terms
 pub mod Formulas
 pub mod Faults
+pub mod Typing
