@@ -17,7 +17,7 @@ use Rattle.tf_check.specs.Scope.{Scope, TypeVariable, TermVariable}
 use Rattle.tf_check.specs.Visited.{Visited, good, expect, in_turn, ◌>>=◌, ◌>>◌}
 use Rattle.tf_check.specs.Kinds.{kind}
 use Rattle.tf_check.specs.Types.{individuals, reading}
-use Rattle.tf_check.specs.Equal.{same_type}
+use Rattle.tf_core.specs.Types.{same_type}
 use Rattle.tf_check.specs.Terms.{term_reading, atom_of}
 
 -- ---- binders

@@ -10,3 +10,4 @@ pub mod Terms
 pub mod Formulas
 pub mod Faults
 pub mod Typing
+pub mod Limits

@@ -19,7 +19,7 @@ use Rattle.tf_check.specs.declared.error.TypeError.TheVariants.{NotATerm, NotAFo
 use Rattle.tf_check.specs.Scope.{Scope, Meaning, Unbound, OfType, OfTerm, meaning}
 use Rattle.tf_check.specs.Visited.{Visited, good, bad, expect, in_turn, ◌>>=◌, ◌>>◌}
 use Rattle.tf_check.specs.Types.{individuals, constructor_named, type_variable, type_applied}
-use Rattle.tf_check.specs.Equal.{same_type}
+use Rattle.tf_core.specs.Types.{same_type}
 use Rattle.tf_check.specs.Signature.{symbol_named}
 
 -- ---- limits
