@@ -5,3 +5,5 @@ pub mod Sink
 pub mod MemoryLibrary
 pub mod MemorySink
 pub mod Host
+pub mod Quantifiers
+pub mod Tables

@@ -1,0 +1,6 @@
+pub mod Structures
+pub mod Truth
+pub mod Models
+pub mod Sound
+pub mod Tabled
+pub mod Laws
