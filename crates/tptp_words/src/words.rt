@@ -10,6 +10,7 @@ use crate::word::{Word, WordError};
 use std::marker::Model;
 
 /// The words of a text that are left. It takes no memory besides the text that it borrows.
+#[derive(Drop)]
 pub struct Words<'a> {
     text: &'a [u8],
     rest: &'a [u8],
