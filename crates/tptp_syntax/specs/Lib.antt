@@ -1,3 +1,5 @@
 pub mod Strays
 pub mod Grammar
 pub mod Files
+pub mod FileNames
+pub mod FileSizes
