@@ -20,9 +20,9 @@ pub record Taken {A : Type 0} (P : Token → Type 0) (Holds : ℕ → A → Type
 -- Each value that the phrase derives from words of P is one of which this holds, by how many words
 -- it takes.
 pub record Always {A : Type 0} (P : Token → Type 0) (p : Phrase A) (Holds : ℕ → A → Type 0) : Type 0
-    where
-  pub of : (ws rest : List Token) (a : A) → AllByRecursion P ws → p.derives ws rest a
-      → Taken P Holds ws rest a
+  where
+    pub of : (ws rest : List Token) (a : A) → AllByRecursion P ws → p.derives ws rest a
+        → Taken P Holds ws rest a
 
 -- of a value this holds, and its size is at most the number
 pub record Sized {A : Type 0} (Holds : A → Type 0) (size : A → ℕ) (n : ℕ) (a : A) : Type 0 where
@@ -46,20 +46,20 @@ module _ {P : Token → Type 0} where
     holds = subst (Holds 0) (sym same) h;
   }
 
-  pub always_empty : {A : Type 0} (Holds : ℕ → A → Type 0) (v : A) → Holds 0 v
+  pub always_empty : {A : Type 0} {Holds : ℕ → A → Type 0} (v : A) → Holds 0 v
       → Always P (empty v) Holds
   unfolding empty
-  always_empty Holds v h =
+  always_empty {Holds = Holds} v h =
       record { of = λ ws rest a all d. none_taken {Holds = Holds} all h d.0 d.1 }
 
-  pub always_nothing : {A : Type 0} (Holds : ℕ → A → Type 0) → Always P nothing Holds
+  pub always_nothing : {A : Type 0} {Holds : ℕ → A → Type 0} → Always P nothing Holds
   unfolding nothing
-  always_nothing Holds = record { of = λ ws rest a all d. absurd d }
+  always_nothing = record { of = λ ws rest a all d. absurd d }
 
-  pub always_word : {A : Type 0} (Holds : ℕ → A → Type 0) (f : Token → Option A)
+  pub always_word : {A : Type 0} {Holds : ℕ → A → Type 0} {f : Token → Option A}
       → ((w : Token) (a : A) → P w → f w ≡ Some a → Holds 1 a) → Always P (word f) Holds
   unfolding word
-  always_word Holds f h = record {
+  always_word h = record {
     of = λ ws rest a all d.
         let both = subst (AllByRecursion P) d.1 all in
         let size = ap length d.1 in
@@ -71,12 +71,12 @@ module _ {P : Token → Type 0} where
         };
   }
 
-  pub always_then : {A B : Type 0} (First : ℕ → A → Type 0) (Holds : ℕ → B → Type 0)
-      (p : Phrase A) (f : A → Phrase B) → Always P p First
+  pub always_then : {A B : Type 0} {First : ℕ → A → Type 0} {Holds : ℕ → B → Type 0}
+      {p : Phrase A} {f : A → Phrase B} → Always P p First
       → ((n : ℕ) (a : A) → First n a → Always P (f a) (λ m b. Holds (n + m) b))
       → Always P (p >>= f) Holds
   unfolding ◌>>=◌
-  always_then First Holds p f h k = record {
+  always_then h k = record {
     of = λ ws rest b all d.
         let first = h.of ws d.0 d.1 all d.2 in
         let second = (k first.count d.1 first.holds).of d.0 rest b first.left d.3 in
@@ -90,10 +90,10 @@ module _ {P : Token → Type 0} where
         };
   }
 
-  pub always_or : {A : Type 0} (Holds : ℕ → A → Type 0) (p q : Phrase A) → Always P p Holds
+  pub always_or : {A : Type 0} {Holds : ℕ → A → Type 0} {p q : Phrase A} → Always P p Holds
       → Always P q Holds → Always P (p or q) Holds
   unfolding ◌or◌
-  always_or Holds p q h k = record {
+  always_or h k = record {
     of = λ ws rest a all d. elim d [ inl x ↦ h.of ws rest a all x | inr x ↦ k.of ws rest a all x ];
   }
 
@@ -127,17 +127,17 @@ module _ {P : Token → Type 0} where
         };
       }
 
-  pub always_many : {A : Type 0} (Holds : A → Type 0) (size : A → ℕ) (p : Phrase A)
+  pub always_many : {A : Type 0} {Holds : A → Type 0} {size : A → ℕ} {p : Phrase A}
       → Always P p (Sized Holds size)
       → Always P (many p) (Sized (AllByRecursion Holds) (λ xs. sum (map size xs)))
   unfolding many
-  always_many Holds size p h =
+  always_many {Holds = Holds} {size = size} {p = p} h =
       record { of = λ ws rest xs all d. taken_row Holds size p h ws rest xs all d }
 
-  pub always_balanced : (Holds : ℕ → Unit {0} → Type 0) (opens closes : Token → Bool)
+  pub always_balanced : {Holds : ℕ → Unit {0} → Type 0} (opens closes : Token → Bool)
       → ((n : ℕ) → Holds n tt) → Always P (balanced opens closes) Holds
   unfolding balanced
-  always_balanced Holds opens closes h = record {
+  always_balanced opens closes h = record {
     of = λ ws rest a all d.
         let size = ap length d.2 in
         let parts = length-append d.1 rest in
@@ -150,15 +150,15 @@ module _ {P : Token → Type 0} where
         };
   }
 
-  pub always_stray : {K A : Type 0} (Holds : ℕ → A → Type 0) (kind : Token → Option K)
+  pub always_stray : {K A : Type 0} {Holds : ℕ → A → Type 0} (kind : Token → Option K)
       (v : Variant K) → Always P (stray kind v) Holds
   unfolding stray
-  always_stray Holds kind v = record { of = λ ws rest a all d. absurd d }
+  always_stray kind v = record { of = λ ws rest a all d. absurd d }
 
   -- what follows from what holds
-  pub always_so : {A : Type 0} (First Holds : ℕ → A → Type 0) (p : Phrase A) → Always P p First
+  pub always_so : {A : Type 0} {First Holds : ℕ → A → Type 0} {p : Phrase A} → Always P p First
       → ((n : ℕ) (a : A) → First n a → Holds n a) → Always P p Holds
-  always_so First Holds p h so = record {
+  always_so h so = record {
     of = λ ws rest a all d.
         let first = h.of ws rest a all d in
         record {
@@ -181,8 +181,8 @@ module _ {K A : Type 0} {P : Token → Type 0} (rule : Rule K A) (Holds : ℕ �
     (h : AlwaysRule P rule Holds) where
   always_levels : (kind : Option K) (n k : ℕ) → Always P (levels rule kind n k) Holds
   unfolding levels
-  always_levels kind zero k = always_nothing Holds
-  always_levels kind (suc n) zero = always_nothing Holds
+  always_levels kind zero k = always_nothing
+  always_levels kind (suc n) zero = always_nothing
   always_levels kind (suc n) (suc zero) =
       h (record { depth = n; stray = kind }) (levels rule kind n) (λ k. always_levels kind n k)
   always_levels kind (suc n) (suc (suc k)) = always_levels kind n (suc k)

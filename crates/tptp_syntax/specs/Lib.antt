@@ -3,3 +3,4 @@ pub mod Grammar
 pub mod Files
 pub mod FileNames
 pub mod FileSizes
+pub mod FileLaws

@@ -3,6 +3,7 @@
 
 mod entry;
 mod error;
+mod file_facts;
 mod formula;
 mod language;
 mod term;
@@ -10,6 +11,7 @@ mod types;
 
 pub use entry::{Entry, File, StatedRole};
 pub use error::ReadError;
+pub use file_facts::a_file_is_no_larger_than_its_text;
 pub use formula::RawFormula;
 pub use term::RawTerm;
 pub use types::{Bound, TypeExpr};

@@ -1,0 +1,5 @@
+pub mod WordFacts
+pub mod TreeFacts
+pub mod PartFacts
+pub mod RuleFacts
+pub mod FileFacts
