@@ -1,3 +1,4 @@
+pub mod Always
 pub mod Outcomes
 pub mod Sequences
 pub mod SingleWords
@@ -7,4 +8,4 @@ pub mod Choices
 pub mod Repetition
 pub mod Levels
 pub mod Limits
-pub mod Always
+pub mod Balance

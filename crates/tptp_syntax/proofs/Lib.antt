@@ -3,3 +3,12 @@ pub mod TreeFacts
 pub mod PartFacts
 pub mod RuleFacts
 pub mod FileFacts
+pub mod KnownWords
+pub mod SharedRules
+pub mod TypeRules
+pub mod DeclarationRules
+pub mod TermRules
+pub mod FormulaRules
+pub mod EntryRules
+pub mod SameTexts
+pub mod WholeFile

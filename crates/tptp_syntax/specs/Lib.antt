@@ -1,6 +1,9 @@
-pub mod Strays
-pub mod Grammar
-pub mod Files
 pub mod FileNames
 pub mod FileSizes
 pub mod FileLaws
+pub mod Strays
+pub mod Grammar
+pub mod Files
+pub mod Descent
+pub mod Ahead
+pub mod Answers

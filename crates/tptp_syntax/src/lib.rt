@@ -3,9 +3,13 @@
 
 mod entry;
 mod error;
+mod fault;
 mod file_facts;
+mod fixed;
 mod formula;
 mod language;
+mod reader;
+mod spelled;
 mod term;
 mod types;
 
