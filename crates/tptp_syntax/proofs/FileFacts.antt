@@ -12,7 +12,7 @@ use Rattle.tptp_syntax.specs.FileNames.{IsWritableFile, entry_names}
 use Rattle.tptp_syntax.specs.FileSizes.{entry_has_chains, file_size, HasPairsFile}
 use Rattle.tptp_syntax.specs.Files.{Spells, strict}
 use Rattle.tptp_syntax.proofs.WordFacts.{Spelled}
-use Rattle.tptp_syntax.proofs.TreeFacts.{AreWritable, writable_joined, true_both}
+use Rattle.tptp_syntax.proofs.TreeFacts.{AreWritable, writable_all, true_both}
 use Rattle.tptp_syntax.proofs.RuleFacts.{EntryHolds, gives_file}
 
 -- ---- the words of a text
@@ -62,7 +62,7 @@ file_facts text f (ws, is_text, (n, d)) =
     let count = taken.is in
     let small = taken.holds.within in
     let words = words_within (length text) text ws is_text in (
-      writable_joined entry_names f.entries (names_of_entries f.entries taken.holds.holds),
+      writable_all entry_names f.entries (names_of_entries f.entries taken.holds.holds),
       omega (arith, count, small, words),
       chains_of_entries f.entries taken.holds.holds,
     )

@@ -15,6 +15,8 @@ use Rattle.tptp_syntax.specs.declared.formula.RawFormula.TheVariants as f
 use Rattle.tptp_syntax.specs.declared.entry.Entry.{Entry}
 use Rattle.tptp_syntax.specs.declared.entry.Entry.TheVariants as e
 use Rattle.tptp_syntax.specs.declared.entry.File.{File}
+use Rattle.tptp_syntax.specs.declared.language.Connective.{Connective}
+use Rattle.tptp_syntax.specs.declared.language.Connective.TheVariants as c
 use Rattle.tptp_syntax.specs.declared.language.Language.{Language}
 use Rattle.tptp_syntax.specs.declared.language.Language.TheVariants.{Tff, Fof}
 use Rattle.tptp_syntax.specs.FileNames.{IsWritable, entry_names}
@@ -22,7 +24,7 @@ use Rattle.tptp_syntax.specs.FileSizes.{type_nodes, bound_nodes, term_nodes, for
 use Rattle.tptp_syntax.specs.FileSizes.{entry_has_chains, file_size}
 use Rattle.tptp_syntax.specs.Grammar.{Kind, type_variable, unit_type, product, type_rule, type_of}
 use Rattle.tptp_syntax.specs.Grammar.{declaration_rule, declaration, term_rule, term, bound}
-use Rattle.tptp_syntax.specs.Grammar.{formula_of, unit_rule, formula, notes, statement, content}
+use Rattle.tptp_syntax.specs.Grammar.{joined, formula_of, unit_rule, formula, notes, statement, content}
 use Rattle.tptp_syntax.specs.Grammar.{entry, file}
 use Rattle.tptp_syntax.proofs.WordFacts.{Spelled}
 use Rattle.tptp_syntax.proofs.TreeFacts.{AreWritable, TypeHolds, BoundHolds, TermHolds, FormulaHolds}
@@ -136,18 +138,28 @@ gives_bound Tff v =
     always_empty (record { name = x; kind = Some a })
     (typed_bound (n + (k + (l + 0))) l x a one.writable kind (omega (arith, count, colon)))))))
 
+of_connective : (op : Connective) → tree.OfTwo (λ a b. joined op a b)
+of_connective c.Implies = tree.formula_implies
+of_connective c.If = tree.formula_if
+of_connective c.Iff = tree.formula_iff
+of_connective c.Xor = tree.formula_xor
+of_connective c.Nand = tree.formula_nand
+of_connective c.Nor = tree.formula_nor
+
 gives_formula_of : (unit : Phrase RawFormula) → Gives unit FormulaHolds formula_nodes
     → Gives (formula_of unit) FormulaHolds formula_nodes
 gives_formula_of unit h =
     always_or (gives_alone unit h)
     (always_or (gives_chain (codes "&") f.And unit h tree.formula_and)
     (always_or (gives_chain (codes "|") f.Or unit h tree.formula_or)
-    (always_or (gives_pair (codes "=>") f.Implies unit unit h h tree.formula_implies)
-    (always_or (gives_pair (codes "<=") f.If unit unit h h tree.formula_if)
-    (always_or (gives_pair (codes "<=>") f.Iff unit unit h h tree.formula_iff)
-    (always_or (gives_pair (codes "<~>") f.Xor unit unit h h tree.formula_xor)
-    (always_or (gives_pair (codes "~&") f.Nand unit unit h h tree.formula_nand)
-    (gives_pair (codes "~|") f.Nor unit unit h h tree.formula_nor))))))))
+    (always_then h (λ n a first.
+    always_then (one_word _) (λ m op mark.
+    always_then h (λ k b second.
+    let one = first.within in
+    let two = second.within in
+    always_empty (joined op a b)
+    (of_connective op (n + (m + (k + 0))) a b first.holds second.holds
+    (omega (arith, one, two, mark)))))))))
 
 gives_unit_rule : (l : Language)
     → AlwaysRule Spelled (unit_rule l) (Sized FormulaHolds formula_nodes)

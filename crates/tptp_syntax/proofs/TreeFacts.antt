@@ -25,7 +25,7 @@ use Rattle.tptp_syntax.specs.declared.formula.RawFormula.TheOpen.{RawFormula-F}
 use Rattle.tptp_syntax.specs.declared.formula.RawFormula.TheOpen as formula_layer
 use Rattle.tptp_syntax.specs.declared.formula.RawFormula.TheFolds.{map-RawFormula}
 use Rattle.tptp_syntax.specs.declared.formula.RawFormula.TheFolds.{fold-roll-RawFormula}
-use Rattle.tptp_syntax.specs.FileNames.{Bytes, IsWritable, joined, type_names, type_names_at}
+use Rattle.tptp_syntax.specs.FileNames.{Bytes, IsWritable, all_names, type_names, type_names_at}
 use Rattle.tptp_syntax.specs.FileNames.{bound_names, bound_names_at, bound_type_names, term_names}
 use Rattle.tptp_syntax.specs.FileNames.{term_names_at, formula_names, formula_names_at}
 use Rattle.tptp_syntax.specs.FileSizes.{type_nodes, type_nodes_at, bound_nodes, bound_nodes_at}
@@ -43,11 +43,11 @@ pub writable_append : (xs ys : List Bytes) → AreWritable xs → AreWritable ys
 writable_append [] ys h k = k
 writable_append (x ∷ xs) ys h k = (h.0, writable_append xs ys h.1 k)
 
-pub writable_joined : {A : Type 0} (names : A → List Bytes) (xs : List A)
-    → AllByRecursion (λ x. AreWritable (names x)) xs → AreWritable (joined (map names xs))
-writable_joined names [] h = tt
-writable_joined names (x ∷ xs) h =
-    writable_append (names x) (joined (map names xs)) h.0 (writable_joined names xs h.1)
+pub writable_all : {A : Type 0} (names : A → List Bytes) (xs : List A)
+    → AllByRecursion (λ x. AreWritable (names x)) xs → AreWritable (all_names (map names xs))
+writable_all names [] h = tt
+writable_all names (x ∷ xs) h =
+    writable_append (names x) (all_names (map names xs)) h.0 (writable_all names xs h.1)
 
 -- ---- types
 
@@ -124,7 +124,7 @@ pub type_apply : (n : ℕ) (name : Bytes) (parts : List TypeExpr) → IsWritable
     → Sized TypeHolds type_nodes n (type.Apply name parts)
 type_apply n name parts w h l =
     of_type n (type_layer.Apply name parts) (type.Apply name parts) (type.rolls-Apply name parts)
-    (w, writable_joined type_names parts h) l
+    (w, writable_all type_names parts h) l
 
 pub type_individuals : (n : ℕ) → 1 ≤ n → Sized TypeHolds type_nodes n type.Individuals
 type_individuals n l =
@@ -140,7 +140,7 @@ pub type_product : (n : ℕ) (parts : List TypeExpr) → AllByRecursion TypeHold
     → 1 + sum (map type_nodes parts) ≤ n → Sized TypeHolds type_nodes n (type.Product parts)
 type_product n parts h l =
     of_type n (type_layer.Product parts) (type.Product parts) (type.rolls-Product parts)
-    (writable_joined type_names parts h) l
+    (writable_all type_names parts h) l
 
 pub type_map : (n : ℕ) (left right : TypeExpr) → TypeHolds left → TypeHolds right
     → 1 + (type_nodes left + type_nodes right) ≤ n
@@ -156,11 +156,11 @@ pub type_quantified : (n : ℕ) (bounds : List Bound) (body : TypeExpr)
 type_quantified n bounds body h k l =
     of_type n (type_layer.Quantified bounds body) (type.Quantified bounds body)
     (type.rolls-Quantified bounds body)
-    (subst (λ z. AreWritable (joined z ++ type_names body))
+    (subst (λ z. AreWritable (all_names z ++ type_names body))
     (sym (map-same (fold-Bound (List Bytes) (List Bytes) type_names_at bound_names_at) bound_names
     names-bound bounds))
-    (writable_append (joined (map bound_names bounds)) (type_names body)
-    (writable_joined bound_names bounds h) k))
+    (writable_append (all_names (map bound_names bounds)) (type_names body)
+    (writable_all bound_names bounds h) k))
     (subst (λ z. 1 + (sum z + type_nodes body) ≤ n)
     (sym (map-same (fold-Bound ℕ ℕ type_nodes_at bound_nodes_at) bound_nodes nodes-bound bounds)) l)
 
@@ -196,7 +196,7 @@ pub term_apply : (n : ℕ) (name : Bytes) (parts : List RawTerm) → IsWritable 
     → Sized TermHolds term_nodes n (term.Apply name parts)
 term_apply n name parts w h l =
     of_term n (term_layer.Apply name parts) (term.Apply name parts) (term.rolls-Apply name parts)
-    (w, writable_joined term_names parts h) l
+    (w, writable_all term_names parts h) l
 
 pub term_individuals : (n : ℕ) → 1 ≤ n → Sized TermHolds term_nodes n term.Individuals
 term_individuals n l =
@@ -244,7 +244,7 @@ pub formula_atom : (n : ℕ) (name : Bytes) (parts : List RawTerm) → IsWritabl
     → Sized FormulaHolds formula_nodes n (formula.Atom name parts)
 formula_atom n name parts w h l =
     of_formula n (formula_layer.Atom name parts) (formula.Atom name parts)
-    (formula.rolls-Atom name parts) (w, writable_joined term_names parts h) refl l
+    (formula.rolls-Atom name parts) (w, writable_all term_names parts h) refl l
 
 pub formula_equal : (n : ℕ) (left right : RawTerm) → TermHolds left → TermHolds right
     → 1 + (term_nodes left + term_nodes right) ≤ n
@@ -298,14 +298,14 @@ pub formula_and : (n : ℕ) (parts : List RawFormula) → AllByRecursion Formula
     → Sized FormulaHolds formula_nodes n (formula.And parts)
 formula_and n parts h two l =
     of_formula n (formula_layer.And parts) (formula.And parts) (formula.rolls-And parts)
-    (writable_joined formula_names parts (names_of_parts parts h)) (chain parts h two) l
+    (writable_all formula_names parts (names_of_parts parts h)) (chain parts h two) l
 
 pub formula_or : (n : ℕ) (parts : List RawFormula) → AllByRecursion FormulaHolds parts
     → 2 ≤ length parts → 1 + sum (map formula_nodes parts) ≤ n
     → Sized FormulaHolds formula_nodes n (formula.Or parts)
 formula_or n parts h two l =
     of_formula n (formula_layer.Or parts) (formula.Or parts) (formula.rolls-Or parts)
-    (writable_joined formula_names parts (names_of_parts parts h)) (chain parts h two) l
+    (writable_all formula_names parts (names_of_parts parts h)) (chain parts h two) l
 
 -- what is asked of a formula that two others make up
 abbrev pub OfTwo : (RawFormula → RawFormula → RawFormula) → Type 0
@@ -367,12 +367,12 @@ pub formula_for_all : OfBound formula.ForAll
 formula_for_all n bounds body h k l =
     of_formula n (formula_layer.ForAll bounds body) (formula.ForAll bounds body)
     (formula.rolls-ForAll bounds body)
-    (writable_append (joined (map bound_names bounds)) (formula_names body)
-    (writable_joined bound_names bounds h) k.0) k.1 l
+    (writable_append (all_names (map bound_names bounds)) (formula_names body)
+    (writable_all bound_names bounds h) k.0) k.1 l
 
 pub formula_exists : OfBound formula.Exists
 formula_exists n bounds body h k l =
     of_formula n (formula_layer.Exists bounds body) (formula.Exists bounds body)
     (formula.rolls-Exists bounds body)
-    (writable_append (joined (map bound_names bounds)) (formula_names body)
-    (writable_joined bound_names bounds h) k.0) k.1 l
+    (writable_append (all_names (map bound_names bounds)) (formula_names body)
+    (writable_all bound_names bounds h) k.0) k.1 l

@@ -28,9 +28,9 @@ abbrev pub IsWritable : Bytes → Type 0
 IsWritable name = (some_bytes name ≡ true) × AllPass is_printable name
 
 -- the lists one after another
-abbrev pub joined : List (List Bytes) → List Bytes
-joined [] = []
-joined (names ∷ more) = names ++ joined more
+abbrev pub all_names : List (List Bytes) → List Bytes
+all_names [] = []
+all_names (names ∷ more) = names ++ all_names more
 
 -- ---- types
 
@@ -40,13 +40,13 @@ kind_names (Some names) = names
 
 abbrev pub type_names_at : TypeExpr-F (List Bytes) (List Bytes) → List Bytes
 type_names_at (type.Variable name) = name ∷ []
-type_names_at (type.Apply name parts) = name ∷ joined parts
+type_names_at (type.Apply name parts) = name ∷ all_names parts
 type_names_at type.Individuals = []
 type_names_at type.Truth = []
 type_names_at type.Types = []
-type_names_at (type.Product parts) = joined parts
+type_names_at (type.Product parts) = all_names parts
 type_names_at (type.Map left right) = left ++ right
-type_names_at (type.Quantified bounds body) = joined bounds ++ body
+type_names_at (type.Quantified bounds body) = all_names bounds ++ body
 
 abbrev pub bound_names_at : Bound-F (List Bytes) (List Bytes) → List Bytes
 bound_names_at bound = bound.name ∷ kind_names bound.kind
@@ -67,7 +67,7 @@ bound_names bound = bound.name ∷ bound_type_names bound.kind
 
 abbrev pub term_names_at : RawTerm-F (List Bytes) → List Bytes
 term_names_at (term.Variable name) = name ∷ []
-term_names_at (term.Apply name parts) = name ∷ joined parts
+term_names_at (term.Apply name parts) = name ∷ all_names parts
 term_names_at term.Individuals = []
 
 -- the names in a term, those of variables too
@@ -77,20 +77,20 @@ term_names = fold-RawTerm (List Bytes) term_names_at
 abbrev pub formula_names_at : RawFormula-F (List Bytes) → List Bytes
 formula_names_at formula.True = []
 formula_names_at formula.False = []
-formula_names_at (formula.Atom name parts) = name ∷ joined (map term_names parts)
+formula_names_at (formula.Atom name parts) = name ∷ all_names (map term_names parts)
 formula_names_at (formula.Equal left right) = term_names left ++ term_names right
 formula_names_at (formula.Unequal left right) = term_names left ++ term_names right
 formula_names_at (formula.Not part) = part
-formula_names_at (formula.And parts) = joined parts
-formula_names_at (formula.Or parts) = joined parts
+formula_names_at (formula.And parts) = all_names parts
+formula_names_at (formula.Or parts) = all_names parts
 formula_names_at (formula.Implies left right) = left ++ right
 formula_names_at (formula.If left right) = left ++ right
 formula_names_at (formula.Iff left right) = left ++ right
 formula_names_at (formula.Xor left right) = left ++ right
 formula_names_at (formula.Nand left right) = left ++ right
 formula_names_at (formula.Nor left right) = left ++ right
-formula_names_at (formula.ForAll bounds body) = joined (map bound_names bounds) ++ body
-formula_names_at (formula.Exists bounds body) = joined (map bound_names bounds) ++ body
+formula_names_at (formula.ForAll bounds body) = all_names (map bound_names bounds) ++ body
+formula_names_at (formula.Exists bounds body) = all_names (map bound_names bounds) ++ body
 
 -- the names in a formula, those in its terms and types too
 unfoldable pub formula_names : RawFormula → List Bytes
@@ -105,7 +105,7 @@ entry_names (Statement label role formula) = label ∷ formula_names formula
 
 -- the names in a file
 abbrev pub file_names : File → List Bytes
-file_names file = joined (map entry_names file.entries)
+file_names file = all_names (map entry_names file.entries)
 
 -- each name in the file has at least one byte, and only bytes from 32 to 126
 abbrev pub IsWritableFile : File → Type 0
