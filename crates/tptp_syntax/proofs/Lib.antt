@@ -3,6 +3,7 @@ pub mod TreeFacts
 pub mod PartFacts
 pub mod RuleFacts
 pub mod FileFacts
+pub mod NameParts
 pub mod KnownWords
 pub mod SharedRules
 pub mod TypeRules

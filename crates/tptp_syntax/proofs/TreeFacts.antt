@@ -58,7 +58,7 @@ TypeHolds a = AreWritable (type_names a)
 abbrev pub BoundHolds : Bound → Type 0
 BoundHolds b = AreWritable (bound_names b)
 
-names-bound : (b : Bound)
+pub names-bound : (b : Bound)
     → fold-Bound (List Bytes) (List Bytes) type_names_at bound_names_at b ≡ bound_names b
 unfolding type_names
 names-bound b = go b.name b.kind
@@ -86,13 +86,13 @@ nodes-bound b = go b.name b.kind
     go name (Some a) =
         fold-roll-Bound ℕ ℕ type_nodes_at bound_nodes_at (record { name = name; kind = Some a })
 
-map-same : {A B : Type 0} (f g : A → B) → ((x : A) → f x ≡ g x) → (xs : List A)
+pub map-same : {A B : Type 0} (f g : A → B) → ((x : A) → f x ≡ g x) → (xs : List A)
     → map f xs ≡ map g xs
 map-same f g e [] = refl
 map-same f g e (x ∷ xs) = ap (λ z. z ∷ map f xs) (e x) ∙ ap (λ z. g x ∷ z) (map-same f g e xs)
 
 -- the names and the nodes of a layer, by those of its parts
-abbrev names_in_type : TypeExpr-F TypeExpr Bound → List Bytes
+abbrev pub names_in_type : TypeExpr-F TypeExpr Bound → List Bytes
 names_in_type x =
     type_names_at (map-TypeExpr TypeExpr Bound (List Bytes) (List Bytes) type_names
     (fold-Bound (List Bytes) (List Bytes) type_names_at bound_names_at) x)
@@ -170,7 +170,7 @@ type_quantified n bounds body h k l =
 abbrev pub TermHolds : RawTerm → Type 0
 TermHolds t = AreWritable (term_names t)
 
-abbrev names_in_term : RawTerm-F RawTerm → List Bytes
+abbrev pub names_in_term : RawTerm-F RawTerm → List Bytes
 names_in_term x = term_names_at (map-RawTerm RawTerm (List Bytes) term_names x)
 
 abbrev nodes_in_term : RawTerm-F RawTerm → ℕ
@@ -208,7 +208,7 @@ term_individuals n l =
 abbrev pub FormulaHolds : RawFormula → Type 0
 FormulaHolds a = AreWritable (formula_names a) × IsTrue (has_chains a)
 
-abbrev names_in_formula : RawFormula-F RawFormula → List Bytes
+abbrev pub names_in_formula : RawFormula-F RawFormula → List Bytes
 names_in_formula x = formula_names_at (map-RawFormula RawFormula (List Bytes) formula_names x)
 
 abbrev chains_in_formula : RawFormula-F RawFormula → Bool
