@@ -1,15 +1,14 @@
--- What holds of each value that a phrase derives, told by how many words it takes.
+-- What holds of each value that a phrase derives, by how many words stand for it.
 use Rattle.std.proofs.Common.{◌≡◌, ℕ, zero, suc, ◌+◌, ◌≤◌, inl, inr, List, [], ◌∷◌, ◌++◌, Bool}
-use Rattle.std.proofs.Common.{length, map, sum, Option, Some, sym, ap, subst, arith}
-use Rattle.std.proofs.Common.{length-append}
+use Rattle.std.proofs.Common.{length, map, sum, Option, Some, sym, ap, subst, arith, length-append}
 use Rattle.std.specs.List.{AllByRecursion}
 use Rattle.std.proofs.lemmas.List.Sums.{sum_by-cons}
 use Rattle.tptp_words.specs.Text.{Token}
 use Rattle.tptp_phrases.specs.Phrase.{Phrase, Variant, empty, nothing, word, ◌>>=◌, ◌or◌, Row, many}
 use Rattle.tptp_phrases.specs.Phrase.{balanced, stray, Rule, levels, deeper, nested}
 
--- so many words up to `rest`, and what holds of a value that stands for so many; the words that are
--- left are of P
+-- The words from ws up to rest are so many, this holds of a value for which so many words stand,
+-- and the words that are left are of P.
 pub record Taken {A : Type 0} (P : Token → Type 0) (Holds : ℕ → A → Type 0) (ws rest : List Token)
     (a : A) : Type 0 where
   pub count : ℕ
@@ -17,14 +16,13 @@ pub record Taken {A : Type 0} (P : Token → Type 0) (Holds : ℕ → A → Type
   pub left : AllByRecursion P rest
   pub holds : Holds count a
 
--- Each value that the phrase derives from words of P is one of which this holds, by how many words
--- it takes.
+-- This holds of each value that the phrase derives from words of P, by how many words stand for it.
 pub record Always {A : Type 0} (P : Token → Type 0) (p : Phrase A) (Holds : ℕ → A → Type 0) : Type 0
   where
     pub of : (ws rest : List Token) (a : A) → AllByRecursion P ws → p.derives ws rest a
         → Taken P Holds ws rest a
 
--- of a value this holds, and its size is at most the number
+-- a property of values that are no larger than the number
 pub record Sized {A : Type 0} (Holds : A → Type 0) (size : A → ℕ) (n : ℕ) (a : A) : Type 0 where
   pub holds : Holds a
   pub within : size a ≤ n

@@ -1,5 +1,5 @@
 -- Where the names of a tree can be written, so can those of its parts.
-use Rattle.std.proofs.Common.{◌≡◌, ℕ, List, [], ◌∷◌, ◌++◌, map, refl, sym, ap, subst, ◌∙◌}
+use Rattle.std.proofs.Common.{◌≡◌, List, [], ◌∷◌, ◌++◌, map, sym, subst}
 use Rattle.std.specs.List.{AllByRecursion}
 use Rattle.tptp_syntax.specs.declared.types.TypeExpr.{TypeExpr, roll-TypeExpr}
 use Rattle.tptp_syntax.specs.declared.types.TypeExpr.TheVariants as type
@@ -55,7 +55,7 @@ pub parts_of_type-apply : (name : Bytes) (parts : List TypeExpr)
     → TypeHolds (type.Apply name parts) → IsWritable name × AllByRecursion TypeHolds parts
 parts_of_type-apply name parts h =
     let all = parts_of_type (type_layer.Apply name parts) (type.Apply name parts)
-        (type.rolls-Apply name parts) h in
+    (type.rolls-Apply name parts) h in
     (all.0, parts_of_all type_names parts all.1)
 
 pub parts_of_type-product : (parts : List TypeExpr) → TypeHolds (type.Product parts)
@@ -74,11 +74,11 @@ pub parts_of_type-quantified : (bounds : List Bound) (body : TypeExpr)
     → TypeHolds (type.Quantified bounds body) → AllByRecursion BoundHolds bounds × TypeHolds body
 parts_of_type-quantified bounds body h =
     let all = parts_of_type (type_layer.Quantified bounds body) (type.Quantified bounds body)
-        (type.rolls-Quantified bounds body) h in
+    (type.rolls-Quantified bounds body) h in
     let both = parts_of_append (all_names (map bound_names bounds)) (type_names body)
-        (subst (λ z. AreWritable (all_names z ++ type_names body))
-        (map-same (fold-Bound (List Bytes) (List Bytes) type_names_at bound_names_at) bound_names
-        names-bound bounds) all) in
+    (subst (λ z. AreWritable (all_names z ++ type_names body))
+    (map-same (fold-Bound (List Bytes) (List Bytes) type_names_at bound_names_at) bound_names
+    names-bound bounds) all) in
     (parts_of_all bound_names bounds both.0, both.1)
 
 -- ---- terms
@@ -97,7 +97,7 @@ pub parts_of_term-apply : (name : Bytes) (parts : List RawTerm) → TermHolds (t
     → IsWritable name × AllByRecursion TermHolds parts
 parts_of_term-apply name parts h =
     let all = parts_of_term (term_layer.Apply name parts) (term.Apply name parts)
-        (term.rolls-Apply name parts) h in
+    (term.rolls-Apply name parts) h in
     (all.0, parts_of_all term_names parts all.1)
 
 -- ---- formulas
@@ -117,7 +117,7 @@ pub parts_of_formula-atom : (name : Bytes) (parts : List RawTerm)
     → NamesHold (formula.Atom name parts) → IsWritable name × AllByRecursion TermHolds parts
 parts_of_formula-atom name parts h =
     let all = parts_of_formula (formula_layer.Atom name parts) (formula.Atom name parts)
-        (formula.rolls-Atom name parts) h in
+    (formula.rolls-Atom name parts) h in
     (all.0, parts_of_all term_names parts all.1)
 
 pub parts_of_formula-equal : (left right : RawTerm) → NamesHold (formula.Equal left right)
@@ -152,7 +152,9 @@ parts_of_formula-or parts h =
 
 -- a formula that two others make up
 abbrev pub OfTwo : (RawFormula → RawFormula → RawFormula) → Type 0
-OfTwo make = (left right : RawFormula) → NamesHold (make left right) → NamesHold left × NamesHold right
+OfTwo make =
+    (left right : RawFormula) → NamesHold (make left right)
+    → NamesHold left × NamesHold right
 
 pub parts_of_formula-implies : OfTwo formula.Implies
 parts_of_formula-implies left right h =
@@ -199,13 +201,13 @@ OfBound make =
 pub parts_of_formula-for_all : OfBound formula.ForAll
 parts_of_formula-for_all bounds body h =
     let both = parts_of_append (all_names (map bound_names bounds)) (formula_names body)
-        (parts_of_formula (formula_layer.ForAll bounds body) (formula.ForAll bounds body)
-        (formula.rolls-ForAll bounds body) h) in
+    (parts_of_formula (formula_layer.ForAll bounds body) (formula.ForAll bounds body)
+    (formula.rolls-ForAll bounds body) h) in
     (parts_of_all bound_names bounds both.0, both.1)
 
 pub parts_of_formula-exists : OfBound formula.Exists
 parts_of_formula-exists bounds body h =
     let both = parts_of_append (all_names (map bound_names bounds)) (formula_names body)
-        (parts_of_formula (formula_layer.Exists bounds body) (formula.Exists bounds body)
-        (formula.rolls-Exists bounds body) h) in
+    (parts_of_formula (formula_layer.Exists bounds body) (formula.Exists bounds body)
+    (formula.rolls-Exists bounds body) h) in
     (parts_of_all bound_names bounds both.0, both.1)

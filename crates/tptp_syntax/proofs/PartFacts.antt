@@ -9,8 +9,7 @@ use Rattle.tptp_words.specs.Text.{Token}
 use Rattle.tptp_words.specs.Words.{name, variable}
 use Rattle.tptp_phrases.specs.Phrase.{Phrase, empty, word, ◌>>=◌, ◌>>◌}
 use Rattle.tptp_phrases.proofs.Always.{Always, Sized, always_empty, always_word, always_then}
-use Rattle.tptp_phrases.proofs.Always.{always_or, always_many}
-use Rattle.tptp_phrases.proofs.Always.{always_so}
+use Rattle.tptp_phrases.proofs.Always.{always_or, always_many, always_so}
 use Rattle.tptp_syntax.specs.declared.types.Bound.{Bound}
 use Rattle.tptp_syntax.specs.FileNames.{IsWritable}
 use Rattle.tptp_syntax.specs.Strays.{label}

@@ -1,6 +1,5 @@
 -- What holds of each tree that the grammar derives from spelled words, rule by rule.
-use Rattle.std.proofs.Common.{ℕ, ◌+◌, ◌≤◌, List, Some, None}
-use Rattle.std.proofs.Common.{refl, arith}
+use Rattle.std.proofs.Common.{ℕ, ◌+◌, ◌≤◌, List, Some, None, refl, arith}
 use Rattle.std.specs.Prelude.{codes, IsTrue}
 use Rattle.std.specs.List.{AllByRecursion}
 use Rattle.tptp_phrases.specs.Phrase.{Phrase}
@@ -20,17 +19,17 @@ use Rattle.tptp_syntax.specs.declared.language.Connective.TheVariants as c
 use Rattle.tptp_syntax.specs.declared.language.Language.{Language}
 use Rattle.tptp_syntax.specs.declared.language.Language.TheVariants.{Tff, Fof}
 use Rattle.tptp_syntax.specs.FileNames.{IsWritable, entry_names}
-use Rattle.tptp_syntax.specs.FileSizes.{type_nodes, bound_nodes, term_nodes, formula_nodes, entry_nodes}
-use Rattle.tptp_syntax.specs.FileSizes.{entry_has_chains, file_size}
+use Rattle.tptp_syntax.specs.FileSizes.{type_nodes, bound_nodes, term_nodes, formula_nodes}
+use Rattle.tptp_syntax.specs.FileSizes.{entry_nodes, entry_has_chains, file_size}
 use Rattle.tptp_syntax.specs.Grammar.{Kind, type_variable, unit_type, product, type_rule, type_of}
 use Rattle.tptp_syntax.specs.Grammar.{declaration_rule, declaration, term_rule, term, bound}
-use Rattle.tptp_syntax.specs.Grammar.{joined, formula_of, unit_rule, formula, notes, statement, content}
-use Rattle.tptp_syntax.specs.Grammar.{entry, file}
+use Rattle.tptp_syntax.specs.Grammar.{joined, formula_of, unit_rule, formula, notes}
+use Rattle.tptp_syntax.specs.Grammar.{statement, content, entry, file}
 use Rattle.tptp_syntax.proofs.WordFacts.{Spelled}
-use Rattle.tptp_syntax.proofs.TreeFacts.{AreWritable, TypeHolds, BoundHolds, TermHolds, FormulaHolds}
+use Rattle.tptp_syntax.proofs.TreeFacts.{AreWritable, TypeHolds, BoundHolds, TermHolds}
+use Rattle.tptp_syntax.proofs.TreeFacts.{FormulaHolds}
 use Rattle.tptp_syntax.proofs.TreeFacts as tree
-use Rattle.tptp_syntax.proofs.PartFacts.{Gives, one_word, one_name, one_variable}
-use Rattle.tptp_syntax.proofs.PartFacts.{one_label}
+use Rattle.tptp_syntax.proofs.PartFacts.{Gives, one_word, one_name, one_variable, one_label}
 use Rattle.tptp_syntax.proofs.PartFacts.{gives_alone, gives_brackets, gives_fixed, gives_variable}
 use Rattle.tptp_syntax.proofs.PartFacts.{gives_application, gives_chain, gives_pair}
 use Rattle.tptp_syntax.proofs.PartFacts.{gives_quantified}

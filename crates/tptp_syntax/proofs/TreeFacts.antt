@@ -1,7 +1,7 @@
--- What holds of trees, from what holds of their parts: their names can be written, their chains have
+-- What holds of trees where it holds of their parts: their names can be written, their chains have
 -- two parts at least, and they are no larger than the words that stand for them.
-use Rattle.std.proofs.Common.{◌≡◌, ℕ, ◌+◌, ◌≤◌, ◌&&◌, Bool, true, false, List, [], ◌∷◌, ◌++◌, length, map}
-use Rattle.std.proofs.Common.{sum, leb, Option, Some, None, refl, sym, ap, subst, arith, ◌∙◌}
+use Rattle.std.proofs.Common.{◌≡◌, ℕ, ◌+◌, ◌≤◌, ◌&&◌, Bool, true, false, List, [], ◌∷◌, ◌++◌}
+use Rattle.std.proofs.Common.{length, map, sum, leb, Option, Some, None, refl, sym, ap, subst, arith, ◌∙◌}
 use Rattle.std.specs.List.{AllByRecursion, list_all}
 use Rattle.std.specs.Prelude.{IsTrue}
 use Rattle.std.proofs.lemmas.Bool.Decides.{nat_tests}
@@ -251,14 +251,16 @@ pub formula_equal : (n : ℕ) (left right : RawTerm) → TermHolds left → Term
     → Sized FormulaHolds formula_nodes n (formula.Equal left right)
 formula_equal n left right h k l =
     of_formula n (formula_layer.Equal left right) (formula.Equal left right)
-    (formula.rolls-Equal left right) (writable_append (term_names left) (term_names right) h k) refl l
+    (formula.rolls-Equal left right) (writable_append (term_names left) (term_names right) h k)
+    refl l
 
 pub formula_unequal : (n : ℕ) (left right : RawTerm) → TermHolds left → TermHolds right
     → 1 + (term_nodes left + term_nodes right) ≤ n
     → Sized FormulaHolds formula_nodes n (formula.Unequal left right)
 formula_unequal n left right h k l =
     of_formula n (formula_layer.Unequal left right) (formula.Unequal left right)
-    (formula.rolls-Unequal left right) (writable_append (term_names left) (term_names right) h k) refl l
+    (formula.rolls-Unequal left right) (writable_append (term_names left) (term_names right) h k)
+    refl l
 
 pub formula_not : (n : ℕ) (part : RawFormula) → FormulaHolds part → 1 + formula_nodes part ≤ n
     → Sized FormulaHolds formula_nodes n (formula.Not part)

@@ -7,9 +7,10 @@ use Rattle.std.specs.Char.{is_ascii_lowercase, is_ascii_uppercase, is_ascii_digi
 use Rattle.std.specs.List.{list_all}
 use Rattle.tptp_words.specs.declared.word.WordKind.{WordKind}
 use Rattle.tptp_words.specs.declared.word.WordKind.TheVariants as kind
-use Rattle.tptp_words.specs.Text.{Token, AllPass, IsNameFrom, is_name, is_printable, some_bytes, Spells}
-use Rattle.tptp_words.specs.Text.{single_quote, backslash, escaped}
-use Rattle.tptp_words.specs.Words.{unescaped, content, name_of, name, variable_of, variable, digits_of}
+use Rattle.tptp_words.specs.Text.{Token, AllPass, IsNameFrom, is_name, is_printable, some_bytes}
+use Rattle.tptp_words.specs.Text.{Spells, single_quote, backslash, escaped}
+use Rattle.tptp_words.specs.Words.{unescaped, content, name_of, name, variable_of, variable}
+use Rattle.tptp_words.specs.Words.{digits_of}
 use Rattle.tptp_words.proofs.Passes.{pass_weaker}
 use Rattle.tptp_words.proofs.Lists.{spelled_some}
 use Rattle.tptp_syntax.specs.FileNames.{IsWritable}

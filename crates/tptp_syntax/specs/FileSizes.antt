@@ -1,4 +1,4 @@
--- How large a file is, counted in nodes and bound names, and that its chains have two parts at least.
+-- How large a file is, in nodes and bound names, and that its chains have two parts at least.
 use Rattle.std.specs.Prelude.{ℕ, ◌+◌, ◌&&◌, Bool, true, List, length, leb, map, sum}
 use Rattle.std.specs.Prelude.{Option, Some, None, IsTrue}
 use Rattle.std.specs.List.{list_all}
