@@ -1,0 +1,13 @@
+pub mod Scope
+pub mod Visited
+pub mod Kinds
+pub mod Types
+pub mod Equal
+pub mod Entries
+pub mod Names
+pub mod Signature
+pub mod Terms
+pub mod Formulas
+pub mod Faults
+pub mod Typing
+pub mod Limits

@@ -1,3 +1,4 @@
+pub mod Always
 pub mod Outcomes
 pub mod Sequences
 pub mod SingleWords

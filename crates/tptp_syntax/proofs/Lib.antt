@@ -1,3 +1,9 @@
+pub mod WordFacts
+pub mod TreeFacts
+pub mod PartFacts
+pub mod RuleFacts
+pub mod FileFacts
+pub mod NameParts
 pub mod KnownWords
 pub mod SharedRules
 pub mod TypeRules

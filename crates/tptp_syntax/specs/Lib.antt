@@ -1,3 +1,6 @@
+pub mod FileNames
+pub mod FileSizes
+pub mod FileLaws
 pub mod Strays
 pub mod Grammar
 pub mod Files
