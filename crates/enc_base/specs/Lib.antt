@@ -4,3 +4,5 @@ pub mod Library
 pub mod Sink
 pub mod MemoryLibrary
 pub mod MemorySink
+pub mod Quantifiers
+pub mod Tables

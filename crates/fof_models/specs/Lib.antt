@@ -1,0 +1,4 @@
+pub mod Structures
+pub mod Truth
+pub mod Models
+pub mod Sound

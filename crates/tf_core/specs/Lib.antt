@@ -1,0 +1,5 @@
+pub mod Types
+pub mod Structures
+pub mod Truth
+pub mod Models
+pub mod TypedTables

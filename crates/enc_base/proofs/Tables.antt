@@ -1,0 +1,159 @@
+-- The places of tuples, the beginnings of blocks, and what stands there.
+use Rattle.std.specs.Prelude.{ℕ, zero, suc, ◌+◌, ◌*◌, ◌<◌, ◌≤◌, ◌≡◌, List, [], ◌∷◌, ◌++◌, length, get_or}
+use Rattle.std.proofs.Common.{refl, sym, ap, ◌∙◌, subst, arith, length-append, ⊎_elim}
+use Rattle.std.proofs.lemmas.List.{get_or_append_left, get_or-append-add}
+use Rattle.std.proofs.lemmas.Bool.{cases_eq}
+use Rattle.enc_base.specs.Tables.{EachBelow, sum_below, tuple_count, place, total, begins, rows, blocks, table}
+
+-- sums
+
+pub sum_below-same : (bound : ℕ) (f g : ℕ → ℕ) → ((n : ℕ) → n < bound → f n ≡ g n) →
+    sum_below bound f ≡ sum_below bound g
+sum_below-same zero f g same = refl
+sum_below-same (suc bound) f g same =
+    omega (
+      arith,
+      same bound (omega arith),
+      sum_below-same bound f g (λ n within. same n (omega arith)),
+    )
+
+sum_below-part : (bound n : ℕ) (f : ℕ → ℕ) → n < bound →
+    sum_below n f + f n ≤ sum_below bound f
+sum_below-part zero n f within = absurd (omega arith)
+sum_below-part (suc bound) n f within =
+    ⊎_elim
+    (λ same. subst (λ w. sum_below w f + f w ≤ sum_below (suc bound) f) (sym same) (omega arith))
+    (λ differs.
+    let other : n ≡ bound → ⊥ = differs in
+    omega (arith, sum_below-part bound n f (omega arith)))
+    (cases_eq n bound)
+
+sum_below-const : (bound c : ℕ) → sum_below bound (λ _. c) ≡ bound * c
+sum_below-const zero c = omega arith
+sum_below-const (suc bound) c = omega (arith, sum_below-const bound c)
+
+-- rows
+
+length-rows : (bound : ℕ) (row : ℕ → List ℕ) →
+    length (rows bound row) ≡ sum_below bound (λ n. length (row n))
+length-rows zero row = refl
+length-rows (suc bound) row =
+    omega (arith, length-append (rows bound row) (row bound), length-rows bound row)
+
+rows-at : (bound n i : ℕ) (row : ℕ → List ℕ) → n < bound → i < length (row n) →
+    get_or (rows bound row) (sum_below n (λ w. length (row w)) + i) 0 ≡ get_or (row n) i 0
+rows-at zero n i row within inside = absurd (omega arith)
+rows-at (suc bound) n i row within inside =
+    ⊎_elim
+    (λ same. subst
+    (λ w. get_or (rows bound row ++ row bound) (sum_below w (λ u. length (row u)) + i) 0
+    ≡ get_or (row w) i 0)
+    (sym same)
+    (ap (λ k. get_or (rows bound row ++ row bound) (k + i) 0) (sym (length-rows bound row))
+    ∙ get_or-append-add (rows bound row) (row bound) i 0))
+    (λ differs.
+    let other : n ≡ bound → ⊥ = differs in
+    get_or_append_left (rows bound row) (row bound) 0
+    (sum_below n (λ w. length (row w)) + i)
+    (omega (
+      arith,
+      length-rows bound row,
+      sum_below-part bound n (λ w. length (row w)) (omega arith),
+    ))
+    ∙ rows-at bound n i row (omega arith) inside)
+    (cases_eq n bound)
+
+-- blocks
+
+pub length-blocks : (bounds : List ℕ) (block : List ℕ → List ℕ) →
+    length (blocks bounds block) ≡ total bounds (λ values. length (block values))
+length-blocks [] block = refl
+length-blocks (bound ∷ bounds) block =
+    length-rows bound (λ n. blocks bounds (λ values. block (n ∷ values)))
+    ∙ sum_below-same bound
+    (λ n. length (blocks bounds (λ values. block (n ∷ values))))
+    (λ n. total bounds (λ values. length (block (n ∷ values))))
+    (λ n _. length-blocks bounds (λ values. block (n ∷ values)))
+
+-- a block lies within the table
+pub begins_within : (bounds values : List ℕ) (lengths : List ℕ → ℕ) → EachBelow bounds values →
+    begins bounds lengths values + lengths values ≤ total bounds lengths
+begins_within [] [] lengths below = omega arith
+begins_within [] (value ∷ values) lengths below = absurd below
+begins_within (bound ∷ bounds) [] lengths below = absurd below
+begins_within (bound ∷ bounds) (value ∷ values) lengths below =
+    omega (
+      arith,
+      begins_within bounds values (λ others. lengths (value ∷ others)) below.1,
+      sum_below-part bound value (λ w. total bounds (λ others. lengths (w ∷ others))) below.0,
+    )
+
+-- an entry of a block stands behind the block's beginning
+pub blocks-at : (bounds values : List ℕ) (block : List ℕ → List ℕ) (i : ℕ) →
+    EachBelow bounds values → i < length (block values) →
+    get_or (blocks bounds block) (begins bounds (λ others. length (block others)) values + i) 0
+    ≡ get_or (block values) i 0
+blocks-at [] [] block i below inside = ap (λ k. get_or (block []) k 0) (omega arith)
+blocks-at [] (value ∷ values) block i below inside = absurd below
+blocks-at (bound ∷ bounds) [] block i below inside = absurd below
+blocks-at (bound ∷ bounds) (value ∷ values) block i below inside =
+    let row : ℕ → List ℕ = λ n. blocks bounds (λ others. block (n ∷ others)) in
+    let inner : ℕ = begins bounds (λ others. length (block (value ∷ others))) values + i in
+    let same : sum_below value (λ n. total bounds (λ others. length (block (n ∷ others))))
+    ≡ sum_below value (λ n. length (row n)) =
+    sum_below-same value
+    (λ n. total bounds (λ others. length (block (n ∷ others)))) (λ n. length (row n))
+    (λ n _. sym (length-blocks bounds (λ others. block (n ∷ others)))) in
+    let at : sum_below value (λ n. total bounds (λ others. length (block (n ∷ others))))
+    + begins bounds (λ others. length (block (value ∷ others))) values + i
+    ≡ sum_below value (λ n. length (row n)) + inner = omega (arith, same) in
+    let within : inner < length (row value) =
+    omega (
+      arith,
+      length-blocks bounds (λ others. block (value ∷ others)),
+      begins_within bounds values (λ others. length (block (value ∷ others))) below.1,
+    ) in
+    ap (λ k. get_or (rows bound row) k 0) at
+    ∙ rows-at bound value inner row below.0 within
+    ∙ blocks-at bounds values (λ others. block (value ∷ others)) i below.1 inside
+
+-- tables
+
+total-ones : (bounds : List ℕ) → total bounds (λ _. 1) ≡ tuple_count bounds
+total-ones [] = refl
+total-ones (bound ∷ bounds) =
+    ap (λ c. sum_below bound (λ _. c)) (total-ones bounds)
+    ∙ sum_below-const bound (tuple_count bounds)
+
+begins-ones : (bounds values : List ℕ) → begins bounds (λ _. 1) values ≡ place bounds values
+begins-ones [] values = refl
+begins-ones (bound ∷ bounds) [] = refl
+begins-ones (bound ∷ bounds) (value ∷ values) =
+    let before : sum_below value (λ _. total bounds (λ _. 1)) ≡ value * tuple_count bounds =
+    ap (λ c. sum_below value (λ _. c)) (total-ones bounds)
+    ∙ sum_below-const value (tuple_count bounds) in
+    omega (arith, before, begins-ones bounds values)
+
+-- the place of a tuple is within the table
+pub place_within : (bounds values : List ℕ) → EachBelow bounds values →
+    place bounds values < tuple_count bounds
+place_within bounds values below =
+    omega (
+      arith,
+      begins_within bounds values (λ _. 1) below,
+      total-ones bounds,
+      begins-ones bounds values,
+    )
+
+pub length-table : (bounds : List ℕ) (f : List ℕ → ℕ) →
+    length (table bounds f) ≡ tuple_count bounds
+length-table bounds f = length-blocks bounds (λ values. f values ∷ []) ∙ total-ones bounds
+
+-- the entry at the place of a tuple is the function's value
+pub table-at : (bounds values : List ℕ) (f : List ℕ → ℕ) → EachBelow bounds values →
+    get_or (table bounds f) (place bounds values) 0 ≡ f values
+table-at bounds values f below =
+    let at : place bounds values ≡ begins bounds (λ _. 1) values + 0 =
+    omega (arith, begins-ones bounds values) in
+    ap (λ k. get_or (table bounds f) k 0) at
+    ∙ blocks-at bounds values (λ others. f others ∷ []) 0 below (omega arith)
