@@ -7,8 +7,11 @@ use Rattle.std.specs.Char.{is_ascii_lowercase, is_ascii_digit}
 use Rattle.std.proofs.lemmas.Fmt.{decimal_by_steps}
 use Rattle.std.proofs.lemmas.Bool.{and_parts}
 use Rattle.std.proofs.lemmas.Bool.Decides.{nat_tests}
-use Rattle.tptp_words.specs.Text.{WordKind, Lower, Upper, Quoted, Distinct, Dollar, System, Number, Mark, Token, is_blank, is_name, AllPass, IsNameFrom, IsDigits, in_quotes, escaped}
-use Rattle.tptp_words.specs.Words.{same, unescaped, name, label, variable}
+use Rattle.tptp_words.specs.declared.word.WordKind.{WordKind}
+use Rattle.tptp_words.specs.declared.word.WordKind.TheVariants.{Lower, Upper, Quoted, Distinct, Dollar, System, Number, Mark}
+use Rattle.tptp_words.specs.Text.{Token, is_blank, is_name, AllPass, IsNameFrom, IsDigits, in_quotes, escaped}
+use Rattle.tptp_words.specs.Words.{same, unescaped, name, variable}
+use Rattle.tptp_syntax.specs.Strays.{label}
 use Rattle.tptp_words.specs.Layout.{written}
 use Rattle.tptp_words.proofs.Longest.{Name, Digits, Tilde, Done, or_die, Ends, lower_run, upper_run, quoted_run, digits_run}
 use Rattle.tptp_words.proofs.ReadBack as back

@@ -1,13 +1,14 @@
 -- What a text states: a problem of first-order formulas. When a text has a finite model.
 use Rattle.std.specs.Prelude.{◌≡◌, ℕ, true, List, [], ◌∷◌, length}
 use Rattle.std.specs.List.{AllByRecursion}
-use Rattle.fof_models.specs.declared.formula.FofFormula.{FofFormula}
-use Rattle.fof_models.specs.declared.formula.FofProblem.{FofProblem}
-use Rattle.fof_models.specs.Models.{IsSound, HasFiniteModel}
-use Rattle.tptp_syntax.specs.declared.tree.StatedRole.TheVariants.{Hypothesis}
-use Rattle.tptp_syntax.specs.declared.tree.Entry.{Entry}
-use Rattle.tptp_syntax.specs.declared.tree.Entry.TheVariants.{Declaration, Statement}
-use Rattle.tptp_syntax.specs.declared.tree.File.{File}
+use Rattle.fof_models.specs.declared.problem.FofFormula.{FofFormula}
+use Rattle.fof_models.specs.declared.problem.FofProblem.{FofProblem}
+use Rattle.fof_models.specs.Sound.{IsSound}
+use Rattle.fof_models.specs.Models.{HasFiniteModel}
+use Rattle.tptp_syntax.specs.declared.entry.StatedRole.TheVariants.{Hypothesis}
+use Rattle.tptp_syntax.specs.declared.entry.Entry.{Entry}
+use Rattle.tptp_syntax.specs.declared.entry.Entry.TheVariants.{Declaration, Statement}
+use Rattle.tptp_syntax.specs.declared.entry.File.{File}
 use Rattle.tptp_words.specs.Text.{is_printable, AllPass, some_bytes}
 use Rattle.tptp_syntax.specs.Files.{Spells}
 use Rattle.fof_text.specs.Names.{AllDiffer}

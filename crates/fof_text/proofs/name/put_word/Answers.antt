@@ -1,9 +1,0 @@
-use Rattle.std.proofs.Common.{sym, ◌∙◌, false, true}
-use Rattle.fof_text.proofs.Parts.{in_row, sent_as, name_part}
-use Rattle.fof_text.proofs.name.put_word.Goals as goal
-
-pub returns-then-is_lower : goal.returns-then-is_lower
-returns-then-is_lower g c = sent_as _ _ _ _ _ _ _ _ (sym (name_part c.args.name.now true (sym c.is_lower.ensures ∙ c.if-is_lower.true))) c.put.ensures
-
-pub returns-else-is_lower : goal.returns-else-is_lower
-returns-else-is_lower g c = sent_as _ _ _ _ _ _ _ _ (sym (name_part c.args.name.now false (sym c.is_lower.ensures ∙ c.if-is_lower.false))) (in_row _ _ _ _ _ _ _ _ _ _ _ (in_row _ _ _ _ _ _ _ _ _ _ _ c.put-going.ensures c.put_escaped-going.ensures) c.put-else-is_lower.ensures)

@@ -1,9 +1,0 @@
-use Rattle.std.proofs.Common.{sym, ◌^◌}
-use Rattle.fof_text.proofs.Parts.{in_row, sent_as}
-use Rattle.fof_text.proofs.EntryParts.{entry_next, small_one}
-use Rattle.fof_text.proofs.problem.put_entries.Goals as goal
-
-pub loop-entry-preserved : goal.loop-entry-preserved
-loop-entry-preserved g c = λ small.
-    sent_as _ _ _ _ _ _ _ _ (sym (entry_next c.args.names.now c.args.entries.now c.loop-entry.entry-index c.entry-item.result c.loop-entry-test.true c.entry-item.is))
-        (in_row _ _ _ _ _ _ _ _ _ _ _ (c.loop-entry.invariant small) (c.put_entry-going.ensures (small_one (2 ^ 32) c.args.entries.now c.loop-entry.entry-index c.entry-item.result c.loop-entry-test.true c.entry-item.is small)))
