@@ -1,2 +1,15 @@
-//! To be written.
+//! The files of TPTP typed first-order problems: their trees, their grammar and their reader.
 #![tactic(auto)]
+
+mod entry;
+mod error;
+mod formula;
+mod language;
+mod term;
+mod types;
+
+pub use entry::{Entry, File, StatedRole};
+pub use error::ReadError;
+pub use formula::RawFormula;
+pub use term::RawTerm;
+pub use types::{Bound, TypeExpr};
