@@ -1,9 +1,10 @@
 ghost use Rattle.std.specs.Prelude.{◌≡◌, IfOk};
 ghost use Rattle.std.specs.Prelude.{MatchResult};
 
-use crate::NoMemory;
 use std::alloc::Global;
 use std::marker::Model;
+
+use crate::NoMemory;
 
 /// A `Box` that contracts see as its value.
 #[derive(Debug, Drop)]

@@ -3,3 +3,9 @@ pub mod Structures
 pub mod Truth
 pub mod Models
 pub mod TypedTables
+pub mod Typing
+pub mod TypingTests
+pub mod Substitution
+pub mod Sorts
+pub mod Counts
+pub mod Sound
