@@ -1,3 +1,5 @@
 pub mod Text
 pub mod Layout
 pub mod Words
+pub mod Scanning
+pub mod Steps
