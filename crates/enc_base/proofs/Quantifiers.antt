@@ -1,6 +1,7 @@
 -- What the tests of the numbers below a bound say.
-use Rattle.std.specs.Prelude.{ℕ, zero, suc, ◌<◌, ◌≡◌, Bool, true, false, not, ◌&&◌, ◌||◌, IsTrue, ◌↔◌}
-use Rattle.std.proofs.Common.{refl, sym, subst, arith, ⊎_elim}
+use Rattle.std.specs.Prelude.{ℕ, zero, suc, List, [], ◌∷◌, map, ◌<◌, ◌≡◌, Bool, true, false, not, ◌&&◌, ◌||◌, IsTrue, ◌↔◌}
+use Rattle.std.proofs.Common.{refl, sym, ap, ◌∙◌, subst, arith, ⊎_elim}
+use Rattle.std.specs.List.{list_any}
 use Rattle.std.proofs.lemmas.Bool.{and_parts, and_from, cases_eq, false≢true, or_cases, or_left, or_right}
 use Rattle.enc_base.specs.Quantifiers.{all_below, some_below}
 
@@ -71,3 +72,28 @@ not-some_below (suc bound) test =
     elim (test bound)
     as (λ b. not (b || some_below bound test) ≡ (not b && all_below bound (λ n. not (test n))))
     [ true ↦ refl | false ↦ not-some_below bound test ]
+
+-- a test of the items' images is a test of the items
+pub list_any-map : {A B : Type 0} (test : B → Bool) (image : A → B) (items : List A) →
+    list_any test (map image items) ≡ list_any (λ item. test (image item)) items
+list_any-map test image [] = refl
+list_any-map test image (item ∷ items) =
+    ap (λ b. test (image item) || b) (list_any-map test image items)
+
+-- tests that agree below the bound
+
+pub all_below-same : (bound : ℕ) (test other : ℕ → Bool) →
+    ((n : ℕ) → n < bound → test n ≡ other n) → all_below bound test ≡ all_below bound other
+all_below-same zero test other same = refl
+all_below-same (suc bound) test other same =
+    ap (λ b. b && all_below bound test) (same bound (omega arith))
+    ∙ ap (λ b. other bound && b)
+    (all_below-same bound test other (λ n within. same n (omega arith)))
+
+pub some_below-same : (bound : ℕ) (test other : ℕ → Bool) →
+    ((n : ℕ) → n < bound → test n ≡ other n) → some_below bound test ≡ some_below bound other
+some_below-same zero test other same = refl
+some_below-same (suc bound) test other same =
+    ap (λ b. b || some_below bound test) (same bound (omega arith))
+    ∙ ap (λ b. other bound || b)
+    (some_below-same bound test other (λ n within. same n (omega arith)))

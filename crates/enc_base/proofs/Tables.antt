@@ -1,8 +1,8 @@
 -- The places of tuples, the beginnings of blocks, and what stands there.
-use Rattle.std.specs.Prelude.{ℕ, zero, suc, ◌+◌, ◌*◌, ◌<◌, ◌≤◌, ◌≡◌, List, [], ◌∷◌, ◌++◌, length, get_or}
+use Rattle.std.specs.Prelude.{ℕ, zero, suc, ◌+◌, ◌*◌, ◌<◌, ◌≤◌, ◌≡◌, ◌-◌, List, [], ◌∷◌, ◌++◌, length, get_or, replicate}
 use Rattle.std.proofs.Common.{refl, sym, ap, ◌∙◌, subst, arith, length-append, ⊎_elim}
 use Rattle.std.proofs.lemmas.List.{get_or_append_left, get_or-append-add}
-use Rattle.std.proofs.lemmas.Bool.{cases_eq}
+use Rattle.std.proofs.lemmas.Bool.{cases_eq, cases_lt}
 use Rattle.enc_base.specs.Tables.{EachBelow, sum_below, tuple_count, place, total, begins, rows, blocks, table}
 
 -- sums
@@ -157,3 +157,44 @@ table-at bounds values f below =
     omega (arith, begins-ones bounds values) in
     ap (λ k. get_or (table bounds f) k 0) at
     ∙ blocks-at bounds values (λ others. f others ∷ []) 0 below (omega arith)
+
+-- what holds of each value of a function holds of each entry of its table
+
+All-rows : (P : ℕ → Type 0) (bound : ℕ) (row : ℕ → List ℕ) →
+    ((n : ℕ) → n < bound → (i : ℕ) → i < length (row n) → P (get_or (row n) i 0)) →
+    (i : ℕ) → i < length (rows bound row) → P (get_or (rows bound row) i 0)
+All-rows P zero row each i within = absurd (omega arith)
+All-rows P (suc bound) row each i within =
+    ⊎_elim
+    (λ earlier.
+    subst P (sym (get_or_append_left (rows bound row) (row bound) 0 i earlier))
+    (All-rows P bound row (λ n below. each n (omega (arith, below))) i earlier))
+    (λ later.
+    let there : length (rows bound row) ≤ i = later in
+    let at : i ≡ length (rows bound row) + (i - length (rows bound row)) = omega arith in
+    subst P
+    (sym (get_or-append-add (rows bound row) (row bound) (i - length (rows bound row)) 0)
+    ∙ ap (λ k. get_or (rows bound row ++ row bound) k 0) (sym at))
+    (each bound (omega arith) (i - length (rows bound row))
+    (omega (arith, within, length-append (rows bound row) (row bound)))))
+    (cases_lt i (length (rows bound row)))
+
+pub table-each : (bounds : List ℕ) (f : List ℕ → ℕ) (P : ℕ → Type 0) →
+    ((values : List ℕ) → EachBelow bounds values → P (f values)) →
+    (i : ℕ) → i < length (table bounds f) → P (get_or (table bounds f) i 0)
+table-each [] f P each zero within = each [] tt
+table-each [] f P each (suc i) within = absurd (omega arith)
+table-each (bound ∷ bounds) f P each i within =
+    All-rows P bound (λ n. table bounds (λ values. f (n ∷ values)))
+    (λ n below. table-each bounds (λ values. f (n ∷ values)) P
+    (λ values inside. each (n ∷ values) (below, inside)))
+    i within
+
+-- a tuple is as long as its bounds
+pub EachBelow-length : (count bound : ℕ) (values : List ℕ) →
+    EachBelow (replicate count bound) values → count ≡ length values
+EachBelow-length zero bound [] below = refl
+EachBelow-length (suc count) bound [] below = absurd below
+EachBelow-length zero bound (value ∷ values) below = absurd below
+EachBelow-length (suc count) bound (value ∷ values) below =
+    ap suc (EachBelow-length count bound values below.1)

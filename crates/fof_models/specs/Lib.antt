@@ -2,3 +2,5 @@ pub mod Structures
 pub mod Truth
 pub mod Models
 pub mod Sound
+pub mod Tabled
+pub mod Laws

@@ -26,6 +26,10 @@ reading s = record {
 abbrev pub values_below : FofSymbol → ℕ → ℕ
 values_below symbol size = cond symbol.predicate 2 size
 
+-- each item is an element
+pub record AreElements (size : ℕ) (elements : List ℕ) : Type 0 where
+  pub below : (i : ℕ) → i < length elements → slice_index elements i < size
+
 -- The functions fit the signature: the domain has an element, functions give elements, and
 -- predicates 0 or 1.
 pub record IsStructure (signature : List FofSymbol) (s : Untyped) : Type 0 where

@@ -1,0 +1,6 @@
+pub mod Truth
+pub mod Sound
+pub mod Quantified
+pub mod Induction
+pub mod Agreement
+pub mod Tabled
