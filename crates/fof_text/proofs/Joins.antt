@@ -1,11 +1,11 @@
 -- Writers whose words can be told apart when they are read back.
-use Rattle.std.proofs.Common.{inl, inr, List, [], ◌∷◌, ◌++◌, refl, ℕ}
-use Rattle.std.specs.Prelude.{codes}
+use Rattle.std.proofs.Common.{inl, inr, List, [], ◌∷◌, ◌++◌, refl, ℕ, ◌+◌, ◌<◌}
+use Rattle.std.specs.Prelude.{codes, ◌^◌}
 use Rattle.tptp_words.specs.declared.word.WordKind.TheVariants.{Mark}
 use Rattle.tptp_words.specs.Text.{Token, Spells}
 use Rattle.tptp_words.proofs.Longest.{Begin, run, Ends}
-use Rattle.fof_text.specs.Written.{Writer, mark_word, more, separated, in_brackets, side_by_side, applied, name_word, after}
-use Rattle.fof_text.proofs.Spelled.{Stops, done_ends, Joined, text, Joins}
+use Rattle.fof_text.specs.Written.{Writer, mark_word, more, separated, in_brackets, side_by_side, applied, name_word, dollar_word, variable_word, quantified, after}
+use Rattle.fof_text.proofs.Spelled.{Stops, done_ends, Joined, text, Joins, variable_is}
 
 abbrev pub AllJoin : List Writer → Type 0
 AllJoin [] = Unit {0}
@@ -74,3 +74,61 @@ applied_joins n h (w ∷ ws) k =
       joined = λ rest j s. h.joined (in_brackets (separated (mark_word (codes ",")) (w ∷ ws)) rest) (inside.joined rest j s) (record { name = refl; digits = refl; done = refl });
       begins = λ rest. h.begins (in_brackets (separated (mark_word (codes ",")) (w ∷ ws)) rest);
     }
+
+-- ---- quantifiers
+
+-- m [ X ] : u, where m is ! or ?
+quantified_joined : (m : List ℕ)
+    → ((more : List Token) → Joined (mark_word (codes "[") ∷ more)
+        → Joined (mark_word m ∷ mark_word (codes "[") ∷ more))
+    → (d : ℕ) → d < 2 ^ 64 → (body : ℕ → Writer) → Joins (body (d + 1)) → (rest : List Token)
+    → Joined rest → Stops (text rest) → Joined (quantified m body d rest)
+quantified_joined m first d l body h rest j s =
+    let scope : List Token = body (d + 1) rest in
+    let closing : List Token = mark_word (codes "]") ∷ mark_word (codes ":") ∷ scope in
+    let colon : Joined (mark_word (codes ":") ∷ scope) =
+        (inr (inr (inr (inr (inr (inr (inl refl)))))), refl, h.joined rest j s) in
+    let closed : Joined closing =
+        (inr (inr (inr (inl refl))), done_ends (text (mark_word (codes ":") ∷ scope)), colon) in
+    first (variable_word d ∷ closing)
+    (inr (inr (inl refl)), done_ends (text (variable_word d ∷ closing)),
+    (variable_is d l).joins.joined closing closed (record { name = refl; digits = refl; done = refl }))
+
+pub for_all_joins : (d : ℕ) → d < 2 ^ 64 → (body : ℕ → Writer) → Joins (body (d + 1))
+    → Joins (quantified (codes "!") body d)
+for_all_joins d l body h = record {
+  joined = quantified_joined (codes "!")
+      (λ more k. (inr (inr (inr (inr (inr (inr (inr (inr (inr (inr (inr (inr (inr (inr (inr (inr (inr (inr
+          (inl refl)))))))))))))))))), refl, k)) d l body h;
+  begins = λ rest. refl;
+}
+
+pub exists_joins : (d : ℕ) → d < 2 ^ 64 → (body : ℕ → Writer) → Joins (body (d + 1))
+    → Joins (quantified (codes "?") body d)
+exists_joins d l body h = record {
+  joined = quantified_joined (codes "?")
+      (λ more k. (inr (inr (inr (inr (inr (inr (inr (inr (inr (inr (inr (inr (inr (inr (inr (inr (inr (inr (inr
+          (inl refl))))))))))))))))))), refl, k)) d l body h;
+  begins = λ rest. refl;
+}
+
+-- ---- negations and fixed words
+
+pub negated_joins : (w : Writer) → Joins w → Joins (λ rest. mark_word (codes "~") ∷ w rest)
+negated_joins w h = record {
+  joined = λ rest j s.
+      (inr (inr (inr (inr (inr (inr (inr (inr (inr (inl refl))))))))), h.begins rest, h.joined rest j s);
+  begins = λ rest. refl;
+}
+
+pub true_joins : Joins (λ rest. dollar_word (codes "$true") ∷ rest)
+true_joins = record {
+  joined = λ rest j s. ((codes "true", (refl, (refl, (refl, (refl, tt)))), refl), s.name, j);
+  begins = λ rest. refl;
+}
+
+pub false_joins : Joins (λ rest. dollar_word (codes "$false") ∷ rest)
+false_joins = record {
+  joined = λ rest j s. ((codes "false", (refl, (refl, (refl, (refl, (refl, tt))))), refl), s.name, j);
+  begins = λ rest. refl;
+}

@@ -1,5 +1,5 @@
 -- Equations of what a tree stands for, one for each kind of tree.
-use Rattle.std.proofs.Common.{◌≡◌, ℕ, List, [], ◌∷◌, length, map, sym, ◌∙◌, ap}
+use Rattle.std.proofs.Common.{◌≡◌, ℕ, List, [], length, map, sym, ◌∙◌, ap}
 use Rattle.fof_models.specs.declared.formula.FofTerm.{FofTerm}
 use Rattle.fof_models.specs.declared.formula.FofTerm.TheVariants as T
 use Rattle.fof_models.specs.declared.formula.Fof.{Fof}

@@ -1,6 +1,6 @@
 -- The words of a term derive a tree that stands for the term.
-use Rattle.std.proofs.Common.{◌≡◌, ℕ, zero, suc, ◌+◌, ◌-◌, ◌<◌, Bool, true, List, [], ◌∷◌, length, map, Option, Some, None, refl, sym, ◌∙◌, ap, subst, arith}
-use Rattle.std.specs.Prelude.{◌^◌, codes, slice_get}
+use Rattle.std.proofs.Common.{◌≡◌, ℕ, zero, suc, ◌+◌, ◌-◌, ◌<◌, Bool, true, false, List, [], ◌∷◌, length, map, Option, Some, None, refl, sym, ◌∙◌, ap, subst, arith}
+use Rattle.std.specs.Prelude.{◌^◌, slice_get}
 use Rattle.std.specs.List.{list_all, AllByRecursion}
 use Rattle.std.proofs.lemmas.Bool.{and_parts, ltb-true}
 use Rattle.std.proofs.lemmas.Option.{slice_get_within}
@@ -18,7 +18,7 @@ use Rattle.tptp_syntax.specs.declared.term.RawTerm.{RawTerm}
 use Rattle.tptp_syntax.specs.declared.term.RawTerm.TheVariants as t
 use Rattle.tptp_syntax.specs.Grammar.{Kind, term, term_rule}
 use Rattle.tptp_syntax.specs.Files.{strict}
-use Rattle.fof_text.specs.Names.{name_at, place_of, AllDiffer}
+use Rattle.fof_text.specs.Names.{name_at, AllDiffer}
 use Rattle.fof_text.specs.Written.{Writer, applied, variable_word, variable_name, term_words, term_words_step}
 use Rattle.fof_text.specs.Meaning.{term_meant}
 use Rattle.fof_text.specs.States.{IsWritable}

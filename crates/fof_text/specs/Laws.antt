@@ -1,17 +1,24 @@
 -- What is promised of texts and of the problems that they state.
-use Rattle.std.specs.Prelude.{◌≡◌, ℕ, List}
+use Rattle.std.specs.Prelude.{◌≡◌, ℕ, List, ◌++◌}
 use Rattle.fof_models.specs.declared.problem.FofProblem.{FofProblem}
 use Rattle.fof_models.specs.Sound.{IsSound}
 use Rattle.fof_models.specs.Models.{HasFiniteModel}
+use Rattle.tptp_words.specs.Text.{AllPass, not_feed}
 use Rattle.tptp_syntax.specs.declared.entry.File.{File}
 use Rattle.tptp_syntax.specs.Files.{Spells}
 use Rattle.fof_text.specs.States.{States, AreNamed}
-use Rattle.fof_text.specs.Written.{text_of}
+use Rattle.fof_text.specs.Written.{comment_line, text_of}
 
 -- the text of a sound problem states it, where each symbol has a name of its own
 abbrev pub TextStatesItsProblem : Type 0
 TextStatesItsProblem =
     (names : List (List ℕ)) (p : FofProblem) → IsSound p → AreNamed names p → States (text_of names p) p
+
+-- a comment line in front of a text changes nothing of what the text states
+abbrev pub CommentsChangeNothing : Type 0
+CommentsChangeNothing =
+    (body text : List ℕ) (p : FofProblem) → AllPass not_feed body → States text p
+    → States (comment_line body ++ text) p
 
 -- a text spells at most one file
 abbrev pub OneFile : Type 0

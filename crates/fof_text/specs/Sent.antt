@@ -6,26 +6,31 @@ use Rattle.enc_base.specs.Sink.{AppendsPrefix}
 use Rattle.tptp_words.specs.Layout.{written}
 use Rattle.fof_text.specs.Written.{Writer, before, after}
 
--- the text that a writer writes
+-- the text of the words that a writer puts
 abbrev pub part : Writer → List ℕ
 part w = written before after (w [])
 
--- a piece before all but the first of several
+-- a piece before all but the first of several parts
 abbrev pub between : ℕ → List ℕ → List ℕ
 between zero piece = []
 between (suc n) piece = piece
 
--- pieces with one between
 abbrev pub in_row_from : ℕ → List ℕ → List (List ℕ) → List ℕ
 in_row_from n piece [] = []
 in_row_from n piece (x ∷ xs) = between n piece ++ (x ++ in_row_from (suc n) piece xs)
 
+-- parts with a piece between each two
 abbrev pub in_row : List ℕ → List (List ℕ) → List ℕ
 in_row = in_row_from 0
 
--- Of a run that was going or not, the bytes before and after and the faults before and after, whether it is still going, and what was to be sent.
+-- Bytes were to be sent by a run that was going or not, and is then going or not: the sink's bytes
+-- and faults before and after. A run that goes on has sent them all, one that failed now a prefix,
+-- and one that failed before sends nothing.
 abbrev pub Sent : Bool → Option (List ℕ) → Option (List ℕ) → ℕ → ℕ → Bool → List ℕ → Type 0
-Sent true old new faults_old faults_new true bytes = Appends old new bytes × (faults_old ≤ faults_new)
-Sent true old new faults_old faults_new false bytes = AppendsPrefix old new bytes × Rose faults_old faults_new × (faults_old ≤ faults_new)
+Sent true old new faults_old faults_new true bytes =
+    Appends old new bytes × (faults_old ≤ faults_new)
+Sent true old new faults_old faults_new false bytes =
+    AppendsPrefix old new bytes × Rose faults_old faults_new × (faults_old ≤ faults_new)
 Sent false old new faults_old faults_new true bytes = ⊥
-Sent false old new faults_old faults_new false bytes = Keeps old new × (faults_old ≤ faults_new)
+Sent false old new faults_old faults_new false bytes =
+    Keeps old new × (faults_old ≤ faults_new)

@@ -18,7 +18,7 @@ use Rattle.fof_models.specs.declared.problem.FofFormula.{FofFormula}
 use Rattle.fof_models.specs.declared.problem.FofProblem.{FofProblem}
 use Rattle.tptp_words.specs.declared.word.WordKind.{WordKind}
 use Rattle.tptp_words.specs.declared.word.WordKind.TheVariants as kind
-use Rattle.tptp_words.specs.Text.{Token, is_name, in_quotes, single_quote}
+use Rattle.tptp_words.specs.Text.{Token, is_name, in_quotes, single_quote, percent, line_feed}
 use Rattle.tptp_words.specs.Words.{same}
 use Rattle.tptp_words.specs.Layout.{written}
 use Rattle.fof_text.specs.Names.{name_at}
@@ -192,3 +192,7 @@ after w = after_of w.kind w.spelling
 -- the text of a problem whose symbols have these names
 unfoldable pub text_of : List (List ℕ) → FofProblem → List ℕ
 text_of names p = written before after (problem_words names p.formulas)
+
+-- a comment on a line of its own
+abbrev pub comment_line : List ℕ → List ℕ
+comment_line body = percent ∷ (body ++ line_feed ∷ [])
