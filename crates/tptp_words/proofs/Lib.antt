@@ -1,0 +1,16 @@
+pub mod Passes
+pub mod Numbers
+pub mod NumberCuts
+pub mod Marks
+pub mod Says
+pub mod Quotes
+pub mod Blocks
+pub mod Names
+pub mod Pieces
+pub mod Gaps
+pub mod Lists
+pub mod OneText
+pub mod Steps
+pub mod Longest
+pub mod ReadBack
+pub mod Spaced

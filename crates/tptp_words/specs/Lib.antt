@@ -3,3 +3,4 @@ pub mod Layout
 pub mod Words
 pub mod Scanning
 pub mod Steps
+pub mod Laws

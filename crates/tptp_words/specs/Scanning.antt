@@ -11,7 +11,7 @@ use Rattle.tptp_words.specs.declared.word.WordError.{WordError}
 use Rattle.tptp_words.specs.declared.word.WordError.TheVariants.{BadByte, Unclosed}
 use Rattle.tptp_words.specs.declared.piece.Piece.{Piece}
 use Rattle.tptp_words.specs.declared.piece.Piece.TheVariants as piece
-use Rattle.tptp_words.specs.Text.{Token, Placed, is_name, is_blank, is_printable, not_feed, is_quote}
+use Rattle.tptp_words.specs.Text.{Placed, is_name, is_blank, is_printable, not_feed, is_quote}
 use Rattle.tptp_words.specs.Text.{single_quote, backslash, percent, slash, star, dollar_sign, point}
 use Rattle.tptp_words.specs.Text.{place}
 
@@ -140,7 +140,7 @@ begun b rest =
     if is_blank b then piece.Gap 1
     else if is_ascii_lowercase b then piece.Word Lower (1 + prefix_len is_name rest)
     else if is_ascii_uppercase b then piece.Word Upper (1 + prefix_len is_name rest)
-    else if b == percent then piece.Gap (1 + prefix_len not_feed rest)
+    else if b == percent then piece.Gap (2 + prefix_len not_feed rest)
     else if b == slash then block_at rest
     else if is_quote b then quoted_from b 1 false rest
     else if b == dollar_sign then dollar_at rest

@@ -14,7 +14,7 @@ use crate::word::WordKind;
 pub enum Piece {
     /// Nothing: the text has no bytes.
     End,
-    /// So many bytes of a gap.
+    /// So many bytes of a gap, or all that are left where these are fewer.
     Gap(usize),
     /// A word of this kind and length.
     Word(WordKind, usize),
@@ -31,7 +31,25 @@ fn mark_len(first: u8, second: u8, third: u8) -> usize
         (b'<', b'=', b'>') | (b'<', b'~', b'>') => 3,
         (b'<', b'=', _) | (b'!', b'=' | b'>', _) | (b'=', b'>', _) | (b'~', b'&' | b'|', _) => 2,
         (b'<', _, _) => 0,
-        (b'(' | b')' | b'[' | b']' | b',' | b'.' | b':' | b'=' | b'~' | b'&' | b'|' | b'!' | b'?' | b'>' | b'*', _, _) => 1,
+        (
+            b'('
+            | b')'
+            | b'['
+            | b']'
+            | b','
+            | b'.'
+            | b':'
+            | b'='
+            | b'~'
+            | b'&'
+            | b'|'
+            | b'!'
+            | b'?'
+            | b'>'
+            | b'*',
+            _,
+            _,
+        ) => 1,
         _ => 0,
     }
 }
@@ -51,7 +69,9 @@ fn name_len(text: &[u8]) -> usize
     ensures exact { result ≡ prefix_len lexical.is_name text.now }
     ensures within { result ≤ length text.now }
 {
-    text.iter().take_while(|byte| byte.is_ascii_alphanumeric() || **byte == b'_').count()
+    text.iter()
+        .take_while(|byte| byte.is_ascii_alphanumeric() || **byte == b'_')
+        .count()
 }
 
 fn line_len(text: &[u8]) -> usize
@@ -86,7 +106,7 @@ pub fn piece_at(text: &[u8]) -> Piece
         b' ' | b'\t' | b'\r' | b'\n' => Piece::Gap(1),
         b'a'..=b'z' => Piece::Word(WordKind::Lower, 1 + name_len(rest)),
         b'A'..=b'Z' => Piece::Word(WordKind::Upper, 1 + name_len(rest)),
-        b'%' => Piece::Gap(1 + line_len(rest)),
+        b'%' => Piece::Gap(2 + line_len(rest)),
         b'/' => block(rest),
         b'\'' | b'"' => quoted(*first, rest),
         b'$' => dollar(rest),

@@ -42,7 +42,11 @@ pub fn quoted(quote: u8, mut text: &[u8]) -> Piece
         }
         text = rest;
     }
-    if escape { Piece::Bad(count) } else { Piece::Open }
+    if escape {
+        Piece::Bad(count)
+    } else {
+        Piece::Open
+    }
 }
 
 /// A block comment, from behind its slash on.

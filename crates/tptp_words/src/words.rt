@@ -51,7 +51,9 @@ impl<'a> Words<'a> {
                     return Ok(Some(Word { kind, from, to }));
                 }
                 Piece::End => return Ok(None),
-                Piece::Bad(distance) => return Err(WordError::BadByte { at: from + distance }),
+                Piece::Bad(distance) => return Err(WordError::BadByte {
+                    at: from + distance,
+                }),
                 Piece::Open => return Err(WordError::Unclosed { at: from }),
             }
         }
