@@ -198,3 +198,45 @@ EachBelow-length (suc count) bound [] below = absurd below
 EachBelow-length zero bound (value ∷ values) below = absurd below
 EachBelow-length (suc count) bound (value ∷ values) below =
     ap suc (EachBelow-length count bound values below.1)
+
+-- tuples over one bound, a value longer
+
+pub tuple_count-more : (count bound : ℕ) →
+    tuple_count (replicate (suc count) bound) ≡ tuple_count (replicate count bound) * bound
+tuple_count-more zero bound = omega arith
+tuple_count-more (suc count) bound = omega (arith, ap (λ n. bound * n) (tuple_count-more count bound))
+
+pub place-more : (bound value count : ℕ) (values : List ℕ) → count ≡ length values →
+    place (replicate (suc count) bound) (values ++ value ∷ [])
+    ≡ place (replicate count bound) values * bound + value
+place-more bound value zero [] long = omega arith
+place-more bound value (suc count) [] long = absurd (omega arith)
+place-more bound value zero (first ∷ values) long = absurd (omega arith)
+place-more bound value (suc count) (first ∷ values) long =
+    omega (arith, place-more bound value count values (omega arith),
+        ap (λ n. first * n) (tuple_count-more count bound))
+
+pub EachBelow-more : (bound value count : ℕ) (values : List ℕ) →
+    EachBelow (replicate count bound) values → value < bound →
+    EachBelow (replicate (suc count) bound) (values ++ value ∷ [])
+EachBelow-more bound value zero [] below within = (within, tt)
+EachBelow-more bound value (suc count) [] below within = absurd below
+EachBelow-more bound value zero (first ∷ values) below within = absurd below
+EachBelow-more bound value (suc count) (first ∷ values) below within =
+    (below.0, EachBelow-more bound value count values below.1 within)
+
+times_some : (bound a b : ℕ) → 0 < bound → a ≤ b → a ≤ b * bound
+times_some bound a b some within = grind arith
+
+pub tuple_count-grows : (bound count more : ℕ) → 0 < bound →
+    tuple_count (replicate count bound) ≤ tuple_count (replicate (count + more) bound)
+tuple_count-grows bound count zero some =
+    let same : count ≡ count + 0 = omega arith in
+    subst (λ n. tuple_count (replicate count bound) ≤ tuple_count (replicate n bound)) same (omega arith)
+tuple_count-grows bound count (suc more) some =
+    let next : suc (count + more) ≡ count + suc more = omega arith in
+    subst (λ n. tuple_count (replicate count bound) ≤ tuple_count (replicate n bound)) next
+        (rw (tuple_count-more (count + more) bound)
+            (times_some bound (tuple_count (replicate count bound))
+                (tuple_count (replicate (count + more) bound)) some
+                (tuple_count-grows bound count more some)))

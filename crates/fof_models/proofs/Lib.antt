@@ -4,3 +4,5 @@ pub mod Quantified
 pub mod Induction
 pub mod Agreement
 pub mod Tabled
+pub mod Places
+pub mod Parts

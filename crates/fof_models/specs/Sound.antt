@@ -56,6 +56,9 @@ is_formula_step signature (layer.Exists body) depth = body (depth + 1)
 unfoldable pub is_formula : List FofSymbol → Fof → ℕ → Bool
 is_formula signature = fold-Fof (ℕ → Bool) (is_formula_step signature)
 
+abbrev pub are_formulas : List FofSymbol → List Fof → ℕ → Bool
+are_formulas signature formulas depth = list_all (λ part. is_formula signature part depth) formulas
+
 -- one layer of the test that no list of parts is shorter than two
 abbrev pub has_pairs_step : Fof-F Bool → Bool
 has_pairs_step layer.True = true

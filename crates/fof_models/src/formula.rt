@@ -1,4 +1,7 @@
-use enc_base::{Boxed, List};
+ghost use Rattle.std.specs.Prelude.{◌≡◌, ◌↔◌, IsTrue, IfOk};
+
+use enc_base::{Boxed, List, NoMemory};
+use std::alloc::Global;
 
 /// An untyped term: a variable, or a function applied to terms.
 ///
@@ -8,6 +11,61 @@ use enc_base::{Boxed, List};
 pub enum FofTerm {
     Var(u32),
     Apply(u32, List<FofTerm>),
+}
+
+impl FofTerm {
+    /// An equal term.
+    #[cycle(copy_term)]
+    pub fn copy(&self, alloc: Global) -> Result<FofTerm, NoMemory>
+        ensures { IfOk result (λ term. term ≡ self.now) }
+    {
+        match self {
+            FofTerm::Var(i) => Ok(FofTerm::Var(*i)),
+            FofTerm::Apply(f, terms) => Ok(FofTerm::Apply(*f, copy_terms(alloc, terms.as_slice())?)),
+        }
+    }
+
+    /// Whether the two are equal.
+    #[cycle(same_term)]
+    pub fn same(&self, other: &FofTerm) -> bool
+        ensures { IsTrue result ↔ (self.now ≡ other.now) }
+    {
+        match (self, other) {
+            (FofTerm::Var(i), FofTerm::Var(j)) => *i == *j,
+            (FofTerm::Apply(f, terms), FofTerm::Apply(g, others)) => {
+                *f == *g && same_terms(terms.as_slice(), others.as_slice())
+            }
+            _ => false,
+        }
+    }
+}
+
+/// Equal terms.
+#[cycle(copy_term)]
+pub fn copy_terms(alloc: Global, terms: &[FofTerm]) -> Result<List<FofTerm>, NoMemory>
+    ensures { IfOk result (λ copied. copied ≡ terms.now) }
+{
+    let mut copied = List::new(alloc);
+    for term in terms {
+        copied.push(term.copy(alloc)?)?;
+    }
+    Ok(copied)
+}
+
+/// Whether the two lists are equal.
+#[cycle(same_term)]
+pub fn same_terms(terms: &[FofTerm], others: &[FofTerm]) -> bool
+    ensures { IsTrue result ↔ (terms.now ≡ others.now) }
+{
+    if terms.len() != others.len() {
+        return false;
+    }
+    for (i, term) in terms.iter().enumerate() {
+        if !term.same(&others[i]) {
+            return false;
+        }
+    }
+    true
 }
 
 /// An untyped first-order formula.
@@ -23,4 +81,89 @@ pub enum Fof {
     Implies(Boxed<Fof>, Boxed<Fof>),
     ForAll(Boxed<Fof>),
     Exists(Boxed<Fof>),
+}
+
+impl Fof {
+    /// An equal formula.
+    #[cycle(copy_formula)]
+    pub fn copy(&self, alloc: Global) -> Result<Fof, NoMemory>
+        ensures { IfOk result (λ formula. formula ≡ self.now) }
+    {
+        match self {
+            Fof::True => Ok(Fof::True),
+            Fof::False => Ok(Fof::False),
+            Fof::Atom(p, terms) => Ok(Fof::Atom(*p, copy_terms(alloc, terms.as_slice())?)),
+            Fof::Equal(left, right) => Ok(Fof::Equal(left.copy(alloc)?, right.copy(alloc)?)),
+            Fof::Not(a) => Ok(Fof::Not(copy_boxed(alloc, a)?)),
+            Fof::And(parts) => Ok(Fof::And(copy_formulas(alloc, parts.as_slice())?)),
+            Fof::Or(parts) => Ok(Fof::Or(copy_formulas(alloc, parts.as_slice())?)),
+            Fof::Implies(a, b) => Ok(Fof::Implies(copy_boxed(alloc, a)?, copy_boxed(alloc, b)?)),
+            Fof::ForAll(body) => Ok(Fof::ForAll(copy_boxed(alloc, body)?)),
+            Fof::Exists(body) => Ok(Fof::Exists(copy_boxed(alloc, body)?)),
+        }
+    }
+
+    /// Whether the two are equal.
+    #[cycle(same_formula)]
+    pub fn same(&self, other: &Fof) -> bool
+        ensures { IsTrue result ↔ (self.now ≡ other.now) }
+    {
+        match (self, other) {
+            (Fof::True, Fof::True) => true,
+            (Fof::False, Fof::False) => true,
+            (Fof::Atom(p, terms), Fof::Atom(q, others)) => {
+                *p == *q && same_terms(terms.as_slice(), others.as_slice())
+            }
+            (Fof::Equal(left, right), Fof::Equal(other_left, other_right)) => {
+                left.same(other_left) && right.same(other_right)
+            }
+            (Fof::Not(a), Fof::Not(b)) => a.get().same(b.get()),
+            (Fof::And(parts), Fof::And(others)) => {
+                same_formulas(parts.as_slice(), others.as_slice())
+            }
+            (Fof::Or(parts), Fof::Or(others)) => same_formulas(parts.as_slice(), others.as_slice()),
+            (Fof::Implies(a, b), Fof::Implies(c, d)) => {
+                a.get().same(c.get()) && b.get().same(d.get())
+            }
+            (Fof::ForAll(a), Fof::ForAll(b)) => a.get().same(b.get()),
+            (Fof::Exists(a), Fof::Exists(b)) => a.get().same(b.get()),
+            _ => false,
+        }
+    }
+}
+
+// an equal formula in a box of its own
+#[cycle(copy_formula)]
+fn copy_boxed(alloc: Global, formula: &Boxed<Fof>) -> Result<Boxed<Fof>, NoMemory>
+    ensures { IfOk result (λ copied. copied ≡ formula.now) }
+{
+    Boxed::new(alloc, formula.get().copy(alloc)?)
+}
+
+/// Equal formulas.
+#[cycle(copy_formula)]
+pub fn copy_formulas(alloc: Global, formulas: &[Fof]) -> Result<List<Fof>, NoMemory>
+    ensures { IfOk result (λ copied. copied ≡ formulas.now) }
+{
+    let mut copied = List::new(alloc);
+    for formula in formulas {
+        copied.push(formula.copy(alloc)?)?;
+    }
+    Ok(copied)
+}
+
+/// Whether the two lists are equal.
+#[cycle(same_formula)]
+pub fn same_formulas(formulas: &[Fof], others: &[Fof]) -> bool
+    ensures { IsTrue result ↔ (formulas.now ≡ others.now) }
+{
+    if formulas.len() != others.len() {
+        return false;
+    }
+    for (i, formula) in formulas.iter().enumerate() {
+        if !formula.same(&others[i]) {
+            return false;
+        }
+    }
+    true
 }

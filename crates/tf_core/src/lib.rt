@@ -9,10 +9,11 @@ mod signature;
 mod term;
 mod ty;
 
-pub use formula::Formula;
-pub use nnf::Nnf;
-pub use normal::{Normal, NormalFormula};
-pub use problem::{Problem, Role, Stated};
+pub use formula::{Formula, copy_formulas, same_formulas};
+pub use nnf::{Nnf, copy_parts, same_parts};
+pub use normal::{Normal, NormalFormula, copy_normal_formulas, same_normal_formulas};
+pub use problem::{Problem, Role, Stated, copy_stated, same_stated};
 pub use signature::{Constructor, Signature, Symbol};
-pub use term::Term;
-pub use ty::Ty;
+pub use signature::{copy_constructors, copy_symbols, same_constructors, same_symbols};
+pub use term::{Term, copy_terms, same_terms};
+pub use ty::{Ty, copy_types, same_types};

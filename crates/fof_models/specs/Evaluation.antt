@@ -1,0 +1,43 @@
+-- Words of the evaluator's contracts: an assignment as an environment holds it, the last element
+-- being the nearest binder's.
+use Rattle.std.specs.Prelude.{ℕ, ◌+◌, ◌≤◌, ◌≡◌, Bool, List, ◌∷◌, map, length, replicate, reverse, IsTrue}
+use Rattle.std.specs.List.{list_all, list_any}
+use Rattle.enc_base.specs.Tables.{EachBelow, place}
+use Rattle.fof_models.specs.declared.formula.FofTerm.{FofTerm}
+use Rattle.fof_models.specs.declared.formula.Fof.{Fof}
+use Rattle.fof_models.specs.declared.problem.FofSymbol.{FofSymbol}
+use Rattle.fof_models.specs.declared.structure.Structure.{Structure}
+use Rattle.fof_models.specs.Room.{Room}
+use Rattle.fof_models.specs.Structures.{Untyped, reading, AreElements, IsWellFormed}
+use Rattle.fof_models.specs.Truth.{value, truth}
+use Rattle.fof_models.specs.Sound.{is_term, are_terms, is_formula, depth, greatest}
+
+-- the value of a term under an environment's items
+abbrev pub value_in : Structure → List ℕ → FofTerm → ℕ
+value_in s items t = value (reading s) (reverse items) t
+
+-- whether a formula is true under an environment's items
+abbrev pub true_in : Structure → List ℕ → Fof → Bool
+true_in s items formula = truth (reading s) formula (reverse items)
+
+-- whether it is with one element more
+abbrev pub true_with : Structure → List ℕ → Fof → ℕ → Bool
+true_with s items formula element = truth (reading s) formula (element ∷ reverse items)
+
+-- whether each part is true, and whether some is
+
+abbrev pub all_true : Structure → List ℕ → List Fof → Bool
+all_true s items parts = list_all (true_in s items) parts
+
+abbrev pub some_true : Structure → List ℕ → List Fof → Bool
+some_true s items parts = list_any (true_in s items) parts
+
+-- the structure is well formed, and the items are elements
+pub record IsReady (signature : List FofSymbol) (s : Structure) (items : List ℕ) : Type 0 where
+  pub well_formed : IsWellFormed signature s
+  pub elements : AreElements s.size items
+
+-- so many numbers below a bound, and the place of their tuple
+pub record IsPlaced (bound : ℕ) (values : List ℕ) (count at : ℕ) : Type 0 where
+  pub place_is : at ≡ place (replicate count bound) values
+  pub below : EachBelow (replicate count bound) values
