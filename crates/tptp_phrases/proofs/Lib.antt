@@ -1,0 +1,9 @@
+pub mod Outcomes
+pub mod Sequences
+pub mod SingleWords
+pub mod Forms
+pub mod Firsts
+pub mod Choices
+pub mod Repetition
+pub mod Levels
+pub mod Limits
