@@ -29,9 +29,50 @@ role_says NegatedConjecture = refl
 role_joined : (r : FofRole) (rest : List Token) → Joined (mark_word (codes ",") ∷ rest)
     → Joined (lower_word (role_name r) ∷ mark_word (codes ",") ∷ rest)
 role_joined Axiom rest j = ((refl, (refl, (refl, (refl, (refl, tt))))), refl, j)
-role_joined NegatedConjecture rest j =
-    ((refl, (refl, (refl, (refl, (refl, (refl, (refl, (refl, (refl, (refl, (refl, (refl, (refl,
-    (refl, (refl, (refl, (refl, (refl, tt)))))))))))))))))), refl, j)
+role_joined NegatedConjecture rest j = (
+  (
+    refl,
+    (
+      refl,
+      (
+        refl,
+        (
+          refl,
+          (
+            refl,
+            (
+              refl,
+              (
+                refl,
+                (
+                  refl,
+                  (
+                    refl,
+                    (
+                      refl,
+                      (
+                        refl,
+                        (
+                          refl,
+                          (
+                            refl,
+                            (refl, (refl, (refl, (refl, (refl, tt))))),
+                          ),
+                        ),
+                      ),
+                    ),
+                  ),
+                ),
+              ),
+            ),
+          ),
+        ),
+      ),
+    ),
+  ),
+  refl,
+  j,
+)
 
 a_formula : (n : ℕ) (w : Writer) (r : RawFormula) → Writes (unit_at n) w r
     → Writes (formula Fof (strict n)) w r
@@ -54,10 +95,10 @@ module _ (names : List (List ℕ)) where
       let tail : List Token = mark_word (codes ")") ∷ mark_word (codes ".") ∷ rest in
       let tree : RawFormula = (raw_formula names f.body).is 0 in
       let stated : Has (statement Fof (strict n) f.name) _ tail (raw_entry f) =
-          one _ _
-          (seq _ _ _ Hypothesis (take _ (lower_word (role_name f.role)) _ (role_says f.role))
-          (seq _ _ _ tt (sign_taken (codes ",") _)
-          (seq _ _ tail tree (a_formula n _ tree k tail) (give (raw_entry f) tail)))) in
+      one _ _
+      (seq _ _ _ Hypothesis (take _ (lower_word (role_name f.role)) _ (role_says f.role))
+      (seq _ _ _ tt (sign_taken (codes ",") _)
+      (seq _ _ tail tree (a_formula n _ tree k tail) (give (raw_entry f) tail)))) in
       one _ _
       (seq _ _ _ Fof (take _ (lower_word (codes "fof")) _ refl)
       (seq _ _ _ tt (sign_taken (codes "(") _)
@@ -81,9 +122,9 @@ module _ (names : List (List ℕ)) where
       let tail_on : Joined tail = (inr (inl refl), done_ends (text end), end_on) in
       let body_on : Joined body = k.joined tail tail_on (close_stops end) in
       let stated_on : Joined stated =
-          role_joined f.role body (inr (inr (inr (inr (inl refl)))), done_ends (text body), body_on) in
+      role_joined f.role body (inr (inr (inr (inr (inl refl)))), done_ends (text body), body_on) in
       let named_on : Joined named =
-          (label_is f.name h).joins.joined (mark_word (codes ",") ∷ stated)
-          (inr (inr (inr (inr (inl refl)))), done_ends (text stated), stated_on)
-          (record { name = refl; digits = refl; done = refl }) in
+      (label_is f.name h).joins.joined (mark_word (codes ",") ∷ stated)
+      (inr (inr (inr (inr (inl refl)))), done_ends (text stated), stated_on)
+      (record { name = refl; digits = refl; done = refl }) in
       ((refl, (refl, (refl, tt))), refl, (inl refl, done_ends (text named), named_on))

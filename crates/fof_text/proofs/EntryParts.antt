@@ -26,7 +26,7 @@ module _ (names : List (List ℕ)) where
 
   pub entry_part : (f : FofFormula) → part (entry_words names f)
       ≡ (((((codes "fof(" ++ part (λ rest. label_word f.name ∷ rest)) ++ codes ",") ++ role_name f.role)
-          ++ codes ",") ++ part ((formula_words names f.body).is 0)) ++ codes ").\n"
+      ++ codes ",") ++ part ((formula_words names f.body).is 0)) ++ codes ").\n"
   entry_part f =
       let label = part (λ rest. label_word f.name ∷ rest) in
       let body = part ((formula_words names f.body).is 0) in
@@ -36,29 +36,29 @@ module _ (names : List (List ℕ)) where
       let end = codes ").\n" in
       let closing : List Token = mark_word (codes ")") ∷ mark_word (codes ".") ∷ [] in
       ap (λ z. start ++ z)
-          ((word_splits (label_word f.name)).at (mark_word (codes ",") ∷ lower_word role
-              ∷ mark_word (codes ",") ∷ (formula_words names f.body).is 0 closing)
-          ∙ ap (λ z. label ++ (comma ++ (role ++ (comma ++ z)))) (((formulas_split names f.body).is 0).at closing))
+      ((word_splits (label_word f.name)).at (mark_word (codes ",") ∷ lower_word role
+      ∷ mark_word (codes ",") ∷ (formula_words names f.body).is 0 closing)
+      ∙ ap (λ z. label ++ (comma ++ (role ++ (comma ++ z)))) (((formulas_split names f.body).is 0).at closing))
       ∙ sym (append_assoc ((((start ++ label) ++ comma) ++ role) ++ comma) body end
-          ∙ append_assoc (((start ++ label) ++ comma) ++ role) comma (body ++ end)
-          ∙ append_assoc ((start ++ label) ++ comma) role (comma ++ (body ++ end))
-          ∙ append_assoc (start ++ label) comma (role ++ (comma ++ (body ++ end)))
-          ∙ append_assoc start label (comma ++ (role ++ (comma ++ (body ++ end)))))
+      ∙ append_assoc (((start ++ label) ++ comma) ++ role) comma (body ++ end)
+      ∙ append_assoc ((start ++ label) ++ comma) role (comma ++ (body ++ end))
+      ∙ append_assoc (start ++ label) comma (role ++ (comma ++ (body ++ end)))
+      ∙ append_assoc start label (comma ++ (role ++ (comma ++ (body ++ end)))))
 
   last_entry : (fs : List FofFormula) (f : FofFormula)
       → text (problem_words names (fs ++ f ∷ []))
-        ≡ text (problem_words names fs) ++ part (entry_words names f)
+      ≡ text (problem_words names fs) ++ part (entry_words names f)
   last_entry [] f = refl
   last_entry (x ∷ fs) f =
       (entry_splits x).at (problem_words names (fs ++ f ∷ []))
       ∙ ap (λ z. part (entry_words names x) ++ z) (last_entry fs f)
       ∙ sym (append_assoc (part (entry_words names x)) (text (problem_words names fs))
-          (part (entry_words names f)))
+      (part (entry_words names f)))
       ∙ ap (λ z. z ++ part (entry_words names f)) (sym ((entry_splits x).at (problem_words names fs)))
 
   pub entry_next : (fs : List FofFormula) (i : ℕ) (f : FofFormula) → i < length fs
       → f ≡ get_or fs i f → text (problem_words names (take (i + 1) fs))
-        ≡ text (problem_words names (take i fs)) ++ part (entry_words names f)
+      ≡ text (problem_words names (take i fs)) ++ part (entry_words names f)
   entry_next fs i f l e =
       ap (λ z. text (problem_words names z)) (take_more fs i f l ∙ ap (λ z. take i fs ++ z ∷ []) (sym e))
       ∙ last_entry (take i fs) f

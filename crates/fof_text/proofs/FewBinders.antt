@@ -26,7 +26,7 @@ module _ (d n : ℕ) (f : Fof) where
       → (d + binder_count u < n) × (d + binder_count v < n)
   implies_few u v e l =
       let both : d + (binder_count u + binder_count v) < n =
-          subst (λ k. d + k < n) (ap binder_count e ∙ sound.binder_count-implies u v) l in
+      subst (λ k. d + k < n) (ap binder_count e ∙ sound.binder_count-implies u v) l in
       (omega arith, omega arith)
 
   pub for_all_few : (u : Fof) → f ≡ F.ForAll u → d + binder_count f < n

@@ -82,7 +82,7 @@ module _ (names : List (List ℕ)) (g : List FofSymbol) (one_each : length names
   -- with its negation
   with_not : {d : ℕ} {x : Fof} {w : Writer} {r : RawFormula} → FormulaReads d x w r
       → FormulaReads d x w r
-        × FormulaReads d (F.Not x) (λ rest. mark_word (codes "~") ∷ w rest) (f.Not r)
+      × FormulaReads d (F.Not x) (λ rest. mark_word (codes "~") ∷ w rest) (f.Not r)
   with_not h = (h, negation h)
 
   as_rolled : {d : ℕ} {x y : Fof} {w : Writer} {r : RawFormula} → x ≡ y → FormulaReads d x w r
@@ -98,7 +98,7 @@ module _ (names : List (List ℕ)) (g : List FofSymbol) (one_each : length names
   abbrev pub FormulaClaim : Fof → Type 0
   FormulaClaim x =
       Claim (is_formula g x) (has_pairs x) (binder_count x) (formula_words names x)
-          (raw_formula names x) x
+      (raw_formula names x) x
 
   abbrev Kept : Type 0
   Kept = (x : Fof) × FormulaClaim x
@@ -127,15 +127,15 @@ module _ (names : List (List ℕ)) (g : List FofSymbol) (one_each : length names
   rolled x h =
       let y = roll-Fof x in
       subst (λ s. Claim s (has_pairs y) (binder_count y) (formula_words names y) (raw_formula names y) y)
-          (sym (fold-roll-Fof (ℕ → Bool) (is_formula_step g) x))
+      (sym (fold-roll-Fof (ℕ → Bool) (is_formula_step g) x))
       (subst (λ p. Claim (sound_layer x) p (binder_count y) (formula_words names y) (raw_formula names y) y)
-          (sym (fold-roll-Fof Bool has_pairs_step x))
+      (sym (fold-roll-Fof Bool has_pairs_step x))
       (subst (λ b. Claim (sound_layer x) (pairs_layer x) b (formula_words names y) (raw_formula names y) y)
-          (sym (fold-roll-Fof ℕ binder_count_step x))
+      (sym (fold-roll-Fof ℕ binder_count_step x))
       (subst (λ w. Claim (sound_layer x) (pairs_layer x) (count_layer x) w (raw_formula names y) y)
-          (sym (fold-roll-Fof Both (formula_words_step names) x))
+      (sym (fold-roll-Fof Both (formula_words_step names) x))
       (subst (λ r. Claim (sound_layer x) (pairs_layer x) (count_layer x) (words_layer x) r y)
-          (sym (fold-roll-Fof RawBoth (raw_formula_step names) x)) h))))
+      (sym (fold-roll-Fof RawBoth (raw_formula_step names) x)) h))))
 
   -- ---- lists
 
@@ -146,21 +146,21 @@ module _ (names : List (List ℕ)) (g : List FofSymbol) (one_each : length names
       → list_all (λ (p : ℕ → Bool). p d) (map (is_formula g) (of_kept us)) ≡ true
       → list_all (λ (p : Bool). p) (map has_pairs (of_kept us)) ≡ true
       → FormulasRead d (of_kept us) (map (λ (w : Both). w.is d) (map (formula_words names) (of_kept us)))
-          (map (λ (r : RawBoth). r.is d) (map (raw_formula names) (of_kept us)))
+      (map (λ (r : RawBoth). r.is d) (map (raw_formula names) (of_kept us)))
   all_kept [] d l h p = none_read d
   all_kept (u ∷ us) d l h p =
       let hs = and_parts _ _ h in
       let ps = and_parts _ _ p in
       let counts : sum (map binder_count (of_kept (u ∷ us)))
-          ≡ binder_count u.0 + sum (map binder_count (of_kept us)) =
-          sum_by-cons (λ n. n) (binder_count u.0) (map binder_count (of_kept us)) in
+      ≡ binder_count u.0 + sum (map binder_count (of_kept us)) =
+      sum_by-cons (λ n. n) (binder_count u.0) (map binder_count (of_kept us)) in
       more_read (u.1 d (omega arith) hs.0 ps.0).0 (all_kept us d (omega arith) hs.1 ps.1)
 
   and_reads : {d : ℕ} {x y : Fof} {xs : List Fof} {w v : Writer} {ws : List Writer}
       {r s : RawFormula} {rs : List RawFormula}
       → FormulasRead d (x ∷ y ∷ xs) (w ∷ v ∷ ws) (r ∷ s ∷ rs)
       → FormulaReads d (F.And (x ∷ y ∷ xs))
-          (in_brackets (separated (mark_word (codes "&")) (w ∷ v ∷ ws))) (f.And (r ∷ s ∷ rs))
+      (in_brackets (separated (mark_word (codes "&")) (w ∷ v ∷ ws))) (f.And (r ∷ s ∷ rs))
   and_reads {d} {x} {y} {xs} {w} {v} {ws} {r} {s} {rs} all = record {
     writes = deeper (λ n k. unit.and_unit n w v ws r s rs k) all.writes;
     joins = bracketed _ (separated_joins (codes "&") joins.and_parts w (v ∷ ws) all.joins);
@@ -178,7 +178,7 @@ module _ (names : List (List ℕ)) (g : List FofSymbol) (one_each : length names
       {r s : RawFormula} {rs : List RawFormula}
       → FormulasRead d (x ∷ y ∷ xs) (w ∷ v ∷ ws) (r ∷ s ∷ rs)
       → FormulaReads d (F.Or (x ∷ y ∷ xs))
-          (in_brackets (separated (mark_word (codes "|")) (w ∷ v ∷ ws))) (f.Or (r ∷ s ∷ rs))
+      (in_brackets (separated (mark_word (codes "|")) (w ∷ v ∷ ws))) (f.Or (r ∷ s ∷ rs))
   or_reads {d} {x} {y} {xs} {w} {v} {ws} {r} {s} {rs} all = record {
     writes = deeper (λ n k. unit.or_unit n w v ws r s rs k) all.writes;
     joins = bracketed _ (separated_joins (codes "|") joins.or_parts w (v ∷ ws) all.joins);
@@ -206,8 +206,8 @@ module _ (names : List (List ℕ)) (g : List FofSymbol) (one_each : length names
             args.joins;
         meant = meant.formula_meant-atom names _ _ _
             ∙ same_atom (place_there names p differ within)
-                (sym (map-map (λ (h : List (List ℕ) → FofTerm). h (binders_of d)) (term_meant names)
-                    (map (λ x. raw_term names x d) ts)) ∙ args.meant)
+            (sym (map-map (λ (h : List (List ℕ) → FofTerm). h (binders_of d)) (term_meant names)
+            (map (λ x. raw_term names x d) ts)) ∙ args.meant)
             ∙ sym (F.rolls-Atom p ts);
       })
 
@@ -215,18 +215,20 @@ module _ (names : List (List ℕ)) (g : List FofSymbol) (one_each : length names
   equal_layer a b d l h k =
       let hs = and_parts _ _ h in
       let left = terms_read names g one_each differ writable a d (omega arith) hs.0 in
-      let right = terms_read names g one_each differ writable b d (omega arith) hs.1 in
-      (record {
-        writes = weaker (λ n k. unit.equal_unit n _ _ _ _ k.0 k.1) (both left.writes right.writes);
-        joins = sides_join (codes "=") equals_parts _ _ left.joins right.joins;
-        meant = meant.formula_meant-equal names _ _ _ ∙ same_equal left.meant right.meant
-            ∙ sym (F.rolls-Equal a b);
-      }, record {
-        writes = weaker (λ n k. unit.unequal_unit n _ _ _ _ k.0 k.1) (both left.writes right.writes);
-        joins = sides_join (codes "!=") unequal_parts _ _ left.joins right.joins;
-        meant = meant.formula_meant-unequal names _ _ _
-            ∙ ap F.Not (same_equal left.meant right.meant ∙ sym (F.rolls-Equal a b));
-      })
+      let right = terms_read names g one_each differ writable b d (omega arith) hs.1 in (
+        record {
+          writes = weaker (λ n k. unit.equal_unit n _ _ _ _ k.0 k.1) (both left.writes right.writes);
+          joins = sides_join (codes "=") equals_parts _ _ left.joins right.joins;
+          meant = meant.formula_meant-equal names _ _ _ ∙ same_equal left.meant right.meant
+              ∙ sym (F.rolls-Equal a b);
+        },
+        record {
+          writes = weaker (λ n k. unit.unequal_unit n _ _ _ _ k.0 k.1) (both left.writes right.writes);
+          joins = sides_join (codes "!=") unequal_parts _ _ left.joins right.joins;
+          meant = meant.formula_meant-unequal names _ _ _
+              ∙ ap F.Not (same_equal left.meant right.meant ∙ sym (F.rolls-Equal a b));
+        },
+      )
 
   -- ---- the induction
 

@@ -80,26 +80,32 @@ applied_joins n h (w ∷ ws) k =
 -- m [ X ] : u, where m is ! or ?
 quantified_joined : (m : List ℕ)
     → ((more : List Token) → Joined (mark_word (codes "[") ∷ more)
-        → Joined (mark_word m ∷ mark_word (codes "[") ∷ more))
+    → Joined (mark_word m ∷ mark_word (codes "[") ∷ more))
     → (d : ℕ) → d < 2 ^ 64 → (body : ℕ → Writer) → Joins (body (d + 1)) → (rest : List Token)
     → Joined rest → Stops (text rest) → Joined (quantified m body d rest)
 quantified_joined m first d l body h rest j s =
     let scope : List Token = body (d + 1) rest in
     let closing : List Token = mark_word (codes "]") ∷ mark_word (codes ":") ∷ scope in
     let colon : Joined (mark_word (codes ":") ∷ scope) =
-        (inr (inr (inr (inr (inr (inr (inl refl)))))), refl, h.joined rest j s) in
+    (inr (inr (inr (inr (inr (inr (inl refl)))))), refl, h.joined rest j s) in
     let closed : Joined closing =
-        (inr (inr (inr (inl refl))), done_ends (text (mark_word (codes ":") ∷ scope)), colon) in
-    first (variable_word d ∷ closing)
-    (inr (inr (inl refl)), done_ends (text (variable_word d ∷ closing)),
-    (variable_is d l).joins.joined closing closed (record { name = refl; digits = refl; done = refl }))
+    (inr (inr (inr (inl refl))), done_ends (text (mark_word (codes ":") ∷ scope)), colon) in
+    first (variable_word d ∷ closing) (
+      inr (inr (inl refl)),
+      done_ends (text (variable_word d ∷ closing)),
+      (variable_is d l).joins.joined closing closed (record { name = refl; digits = refl; done = refl }),
+    )
 
 pub for_all_joins : (d : ℕ) → d < 2 ^ 64 → (body : ℕ → Writer) → Joins (body (d + 1))
     → Joins (quantified (codes "!") body d)
 for_all_joins d l body h = record {
   joined = quantified_joined (codes "!")
-      (λ more k. (inr (inr (inr (inr (inr (inr (inr (inr (inr (inr (inr (inr (inr (inr (inr (inr (inr (inr
-          (inl refl)))))))))))))))))), refl, k)) d l body h;
+      (λ more k. (
+        inr (inr (inr (inr (inr (inr (inr (inr (inr (inr (inr (inr (inr (inr (inr (inr (inr (inr
+            (inl refl)))))))))))))))))),
+        refl,
+        k,
+      )) d l body h;
   begins = λ rest. refl;
 }
 
@@ -107,8 +113,12 @@ pub exists_joins : (d : ℕ) → d < 2 ^ 64 → (body : ℕ → Writer) → Join
     → Joins (quantified (codes "?") body d)
 exists_joins d l body h = record {
   joined = quantified_joined (codes "?")
-      (λ more k. (inr (inr (inr (inr (inr (inr (inr (inr (inr (inr (inr (inr (inr (inr (inr (inr (inr (inr (inr
-          (inl refl))))))))))))))))))), refl, k)) d l body h;
+      (λ more k. (
+        inr (inr (inr (inr (inr (inr (inr (inr (inr (inr (inr (inr (inr (inr (inr (inr (inr (inr (inr
+            (inl refl))))))))))))))))))),
+        refl,
+        k,
+      )) d l body h;
   begins = λ rest. refl;
 }
 

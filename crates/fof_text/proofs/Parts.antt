@@ -25,7 +25,7 @@ use Rattle.fof_text.proofs.WrittenSplits.{terms_split, all_terms_split, formulas
 
 row_last : (piece : List ℕ) (xs : List (List ℕ)) (n : ℕ) (x : List ℕ)
     → in_row_from n piece (xs ++ x ∷ [])
-      ≡ (in_row_from n piece xs ++ between (n + length xs) piece) ++ x
+    ≡ (in_row_from n piece xs ++ between (n + length xs) piece) ++ x
 row_last piece [] n x =
     ap (λ z. between n piece ++ z) (append-nil x)
     ∙ ap (λ k. between k piece ++ x) (let e : n ≡ n + 0 = omega arith in e)
@@ -34,8 +34,8 @@ row_last piece (y ∷ ys) n x =
     let front = between n piece in
     let e : suc n + length ys ≡ n + suc (length ys) = omega arith in
     ap (λ z. front ++ (y ++ z))
-        (row_last piece ys (suc n) x ∙ append_assoc tail (between (suc n + length ys) piece) x
-        ∙ ap (λ k. tail ++ (between k piece ++ x)) e)
+    (row_last piece ys (suc n) x ∙ append_assoc tail (between (suc n + length ys) piece) x
+    ∙ ap (λ k. tail ++ (between k piece ++ x)) e)
     ∙ ap (λ z. front ++ z) (sym (append_assoc y tail _))
     ∙ sym (append_assoc front (y ++ tail) _)
     ∙ sym (append_assoc (front ++ (y ++ tail)) (between (n + suc (length ys)) piece) x)
@@ -44,12 +44,12 @@ row_last piece (y ∷ ys) n x =
 pub row_next : {A : Type 0} (f : A → List ℕ) (piece : List ℕ) (us : List A) (i : ℕ) (u : A)
     → i < length us → u ≡ get_or us i u
     → in_row piece (map f (take (i + 1) us))
-      ≡ (in_row piece (map f (take i us)) ++ between i piece) ++ f u
+    ≡ (in_row piece (map f (take i us)) ++ between i piece) ++ f u
 row_next f piece us i u l e =
     let done = map f (take i us) in
     let long : 0 + length done ≡ i =
-        let short : i ≤ length us = omega arith in
-        omega (arith, length-map (take i us) f, length-take-le i us short) in
+    let short : i ≤ length us = omega arith in
+    omega (arith, length-map (take i us) f, length-take-le i us short) in
     ap (λ z. in_row piece (map f z)) (take_more us i u l ∙ ap (λ z. take i us ++ z ∷ []) (sym e))
     ∙ ap (in_row piece) (map-append f (take i us) (u ∷ []))
     ∙ row_last piece done 0 (f u)
@@ -64,7 +64,7 @@ row_end f piece us i l = ap (λ z. in_row piece (map f z)) (take_all i us l)
 
 pub name_part : (n : List ℕ) (v : Bool) → is_lower n ≡ v
     → part (λ rest. name_word n ∷ rest)
-      ≡ (if v then n else single_quote ∷ (escaped single_quote n ++ single_quote ∷ []))
+    ≡ (if v then n else single_quote ∷ (escaped single_quote n ++ single_quote ∷ []))
 name_part n v e = ap (λ u. part (λ rest. (if u then lower_word n else quoted_word n) ∷ rest)) e ∙ go v
   where
     go : (v : Bool) → part (λ rest. (if v then lower_word n else quoted_word n) ∷ rest)
@@ -82,13 +82,13 @@ escaped-append quote (b ∷ bs) cs = go (b == quote || b == 92) (escaped-append 
   where
     go : (v : Bool) → escaped quote (bs ++ cs) ≡ escaped quote bs ++ escaped quote cs
         → (if v then 92 ∷ b ∷ escaped quote (bs ++ cs) else b ∷ escaped quote (bs ++ cs))
-          ≡ (if v then 92 ∷ b ∷ escaped quote bs else b ∷ escaped quote bs) ++ escaped quote cs
+        ≡ (if v then 92 ∷ b ∷ escaped quote bs else b ∷ escaped quote bs) ++ escaped quote cs
     go true e = ap (λ z. 92 ∷ b ∷ z) e
     go false e = ap (λ z. b ∷ z) e
 
 pub escaped_next : (bs : List ℕ) (i : ℕ) → i < length bs
     → escaped single_quote (take (i + 1) bs)
-      ≡ escaped single_quote (take i bs) ++ escaped single_quote (get_or bs i 0 ∷ [])
+    ≡ escaped single_quote (take i bs) ++ escaped single_quote (get_or bs i 0 ∷ [])
 escaped_next bs i l =
     ap (escaped single_quote) (take_more bs i 0 l)
     ∙ escaped-append single_quote (take i bs) (get_or bs i 0 ∷ [])
@@ -109,14 +109,14 @@ name_outside (m ∷ ns) (suc i) l = name_outside ns i (omega arith)
 module _ (names : List (List ℕ)) (d : ℕ) where
   pub part-apply : (f : ℕ) (ts : List FofTerm)
       → part (term_words names (T.Apply f ts) d)
-        ≡ part (applied (name_at names f) (map (λ t. term_words names t d) ts))
+      ≡ part (applied (name_at names f) (map (λ t. term_words names t d) ts))
   unfolding term_words
   part-apply f ts =
       ap (λ z. part (term_words names z d)) (sym (T.rolls-Apply f ts))
       ∙ ap (λ (h : ℕ → Writer). part (h d))
-          (fold-roll-FofTerm (ℕ → Writer) (term_words_step names) (O.Apply f ts))
+      (fold-roll-FofTerm (ℕ → Writer) (term_words_step names) (O.Apply f ts))
       ∙ ap (λ ws. part (applied (name_at names f) ws))
-          (map-map (λ (u : ℕ → Writer). u d) (term_words names) ts)
+      (map-map (λ (u : ℕ → Writer). u d) (term_words names) ts)
 
   pub part-var : (i : ℕ)
       → part (term_words names (T.Var i) d) ≡ part (λ rest. variable_word (d - (i + 1)) ∷ rest)
@@ -124,7 +124,7 @@ module _ (names : List (List ℕ)) (d : ℕ) where
   part-var i =
       ap (λ z. part (term_words names z d)) (sym (T.rolls-Var i))
       ∙ ap (λ (h : ℕ → Writer). part (h d))
-          (fold-roll-FofTerm (ℕ → Writer) (term_words_step names) (O.Var i))
+      (fold-roll-FofTerm (ℕ → Writer) (term_words_step names) (O.Var i))
 
   -- the text of a term
   abbrev pub term_part : FofTerm → List ℕ
@@ -132,8 +132,8 @@ module _ (names : List (List ℕ)) (d : ℕ) where
 
   pub applied_end : (f : ℕ) (ts : List FofTerm) (i : ℕ) → eqb (length ts) 0 ≡ false
       → length ts ≤ i → part (applied (name_at names f) (map (λ t. term_words names t d) ts))
-        ≡ ((part (λ rest. name_word (name_at names f) ∷ rest) ++ codes "(")
-            ++ in_row (codes ",") (map term_part (take i ts))) ++ codes ")"
+      ≡ ((part (λ rest. name_word (name_at names f) ∷ rest) ++ codes "(")
+      ++ in_row (codes ",") (map term_part (take i ts))) ++ codes ")"
   applied_end f ts i some past =
       let ws : List Writer = map (λ t. term_words names t d) ts in
       let front = part (λ rest. name_word (name_at names f) ∷ rest) ++ codes "(" in
@@ -181,14 +181,14 @@ module _ (names : List (List ℕ)) (d : ℕ) where
   equal_is f a b e =
       at_is f (G.Equal a b) (e ∙ sym (F.rolls-Equal a b))
       ∙ sides_part (codes "=") (codes " = ") equals_piece (term_words names a d)
-          (term_words names b d) (terms_split names a d)
+      (term_words names b d) (terms_split names a d)
 
   pub equal_not : (f : Fof) (a b : FofTerm) → f ≡ F.Equal a b
       → negated_part f ≡ (term_part a ++ codes " != ") ++ term_part b
   equal_not f a b e =
       at_not f (G.Equal a b) (e ∙ sym (F.rolls-Equal a b))
       ∙ sides_part (codes "!=") (codes " != ") unequal_piece (term_words names a d)
-          (term_words names b d) (terms_split names a d)
+      (term_words names b d) (terms_split names a d)
 
   pub not_is : (f u : Fof) → f ≡ F.Not u → formula_part f ≡ negated_part u
   not_is f u e = at_is f (G.Not u) (e ∙ sym (F.rolls-Not u))
@@ -203,23 +203,23 @@ module _ (names : List (List ℕ)) (d : ℕ) where
       at_is f (G.Implies u v) (e ∙ sym (F.rolls-Implies u v))
       ∙ brackets_part (side_by_side (codes "=>") a b) (sides_split (codes "=>") a b split_u split_v)
       ∙ ap (λ z. (codes "(" ++ z) ++ codes ")")
-          (sides_part (codes "=>") (codes " => ") implies_piece a b split_u)
+      (sides_part (codes "=>") (codes " => ") implies_piece a b split_u)
 
   pub for_all_is : (f u : Fof) → f ≡ F.ForAll u → formula_part f
       ≡ ((codes "![" ++ part (λ rest. variable_word d ∷ rest)) ++ codes "]: ")
-        ++ part ((formula_words names u).is (d + 1))
+      ++ part ((formula_words names u).is (d + 1))
   for_all_is f u e =
       at_is f (G.ForAll u) (e ∙ sym (F.rolls-ForAll u))
       ∙ quantified_part (codes "!") all_piece (formula_words names u).is d
-          ((formulas_split names u).is (d + 1))
+      ((formulas_split names u).is (d + 1))
 
   pub exists_is : (f u : Fof) → f ≡ F.Exists u → formula_part f
       ≡ ((codes "?[" ++ part (λ rest. variable_word d ∷ rest)) ++ codes "]: ")
-        ++ part ((formula_words names u).is (d + 1))
+      ++ part ((formula_words names u).is (d + 1))
   exists_is f u e =
       at_is f (G.Exists u) (e ∙ sym (F.rolls-Exists u))
       ∙ quantified_part (codes "?") some_piece (formula_words names u).is d
-          ((formulas_split names u).is (d + 1))
+      ((formulas_split names u).is (d + 1))
 
   -- ---- chains
 

@@ -36,8 +36,8 @@ module _ (names others : List (List ℕ)) (g h : List FofSymbol) (one_each : len
       → is_term g (term_meant names r bound) d ≡ true
       → is_term h (term_meant others r bound) d ≡ true → AreBound s.size d elements
       → (value other_one elements (term_meant others r bound)
-          ≡ value s elements (term_meant names r bound))
-        × (value s elements (term_meant names r bound) < s.size)
+      ≡ value s elements (term_meant names r bound))
+      × (value s elements (term_meant names r bound) < s.size)
 
   -- ---- symbols
 
@@ -56,8 +56,8 @@ module _ (names others : List (List ℕ)) (g h : List FofSymbol) (one_each : len
       → is_symbol (slice_get g (place_of names x)) predicate (length xs) ≡ true
       → SameList elements xs ys
       → (other_one.symbol_at (place_of others x) (map (value other_one elements) ys)
-          ≡ s.symbol_at (place_of names x) (map (value s elements) xs))
-        × (s.symbol_at (place_of names x) (map (value s elements) xs) < cond predicate 2 s.size)
+      ≡ s.symbol_at (place_of names x) (map (value s elements) xs))
+      × (s.symbol_at (place_of names x) (map (value s elements) xs) < cond predicate 2 s.size)
   symbol_same predicate x elements xs ys there here list =
       let b = is_symbol-says _ predicate (length xs) here in
       let c = is_symbol-says _ predicate (length ys) there in
@@ -67,13 +67,14 @@ module _ (names others : List (List ℕ)) (g h : List FofSymbol) (one_each : len
       let in_range : v < values_below b.0 s.size = structure.values (place_of names x) b.0 args b.1 below in
       let within : v < cond predicate 2 s.size = subst (λ p. v < cond p 2 s.size) b.2 in_range in
       let kept : kept_in s.size (Some c.0) v ≡ v =
-          kept_value s.size c.0 v (subst (λ p. v < cond p 2 s.size) (sym c.2) within) in
+      kept_value s.size c.0 v (subst (λ p. v < cond p 2 s.size) (sym c.2) within) in
       let at_name = named x (symbol_within h (place_of others x) predicate (length ys) there) in
-      let found : Option FofSymbol = slice_get h (place_of others x) in
-      (ap (λ z. kept_in s.size found (s.symbol_at z (map (value other_one elements) ys))) at_name
-          ∙ ap (λ z. kept_in s.size found (s.symbol_at (place_of names x) z)) list.same
-          ∙ ap (λ o. kept_in s.size o v) c.1 ∙ kept,
-      within)
+      let found : Option FofSymbol = slice_get h (place_of others x) in (
+        ap (λ z. kept_in s.size found (s.symbol_at z (map (value other_one elements) ys))) at_name
+            ∙ ap (λ z. kept_in s.size found (s.symbol_at (place_of names x) z)) list.same
+            ∙ ap (λ o. kept_in s.size o v) c.1 ∙ kept,
+        within,
+      )
 
   -- ---- lists of terms
 
@@ -82,7 +83,7 @@ module _ (names others : List (List ℕ)) (g h : List FofSymbol) (one_each : len
       → are_terms g (map (λ r. term_meant names r bound) rs) d ≡ true
       → are_terms h (map (λ r. term_meant others r bound) rs) d ≡ true
       → SameList elements (map (λ r. term_meant names r bound) rs)
-          (map (λ r. term_meant others r bound) rs)
+      (map (λ r. term_meant others r bound) rs)
   all_same bound d elements k [] c i j = record { same = refl; below = tt }
   all_same bound d elements k (r ∷ rs) c i j =
       let i' = and_parts _ _ i in
@@ -103,13 +104,14 @@ module _ (names others : List (List ℕ)) (g h : List FofSymbol) (one_each : len
       let e = term_meant-variable names bound x in
       let e' = term_meant-variable others bound x in
       let l : place_of bound x < d =
-          ltb-true _ _ (sym (is_term-variable g _ d) ∙ ap (λ z. is_term g z d) (sym e) ∙ i) in
+      ltb-true _ _ (sym (is_term-variable g _ d) ∙ ap (λ z. is_term g z d) (sym e) ∙ i) in
       let v = ap (value s elements) e ∙ value-variable s elements (place_of bound x) in
       let v' = ap (value other_one elements) e' ∙ value-variable other_one elements (place_of bound x) in
-      let enough = k.enough in
-      (v' ∙ sym v,
-      subst (λ z. z < s.size) (sym v)
-      (element_below elements s.size (place_of bound x) k.below (omega arith)))
+      let enough = k.enough in (
+        v' ∙ sym v,
+        subst (λ z. z < s.size) (sym v)
+            (element_below elements s.size (place_of bound x) k.below (omega arith)),
+      )
 
   apply_case : (x : List ℕ) (rs : List RawTerm) → AllByRecursion TermClaim rs
       → TermClaim (t.Apply x rs)
@@ -117,13 +119,13 @@ module _ (names others : List (List ℕ)) (g h : List FofSymbol) (one_each : len
       let xs : List FofTerm = map (λ r. term_meant names r bound) rs in
       let ys : List FofTerm = map (λ r. term_meant others r bound) rs in
       let e = term_meant-apply names bound x rs ∙ ap (T.Apply (place_of names x))
-              (map-map (λ (q : List (List ℕ) → FofTerm). q bound) (term_meant names) rs) in
+      (map-map (λ (q : List (List ℕ) → FofTerm). q bound) (term_meant names) rs) in
       let e' = term_meant-apply others bound x rs ∙ ap (T.Apply (place_of others x))
-              (map-map (λ (q : List (List ℕ) → FofTerm). q bound) (term_meant others) rs) in
+      (map-map (λ (q : List (List ℕ) → FofTerm). q bound) (term_meant others) rs) in
       let i' = and_parts _ _ (sym (is_term-apply g (place_of names x) xs d)
-              ∙ ap (λ z. is_term g z d) (sym e) ∙ i) in
+      ∙ ap (λ z. is_term g z d) (sym e) ∙ i) in
       let j' = and_parts _ _ (sym (is_term-apply h (place_of others x) ys d)
-              ∙ ap (λ z. is_term h z d) (sym e') ∙ j) in
+      ∙ ap (λ z. is_term h z d) (sym e') ∙ j) in
       let list = all_same bound d elements k rs c i'.1 j'.1 in
       let r = symbol_same false x elements xs ys j'.0 i'.0 list in
       let v = ap (value s elements) e ∙ value-apply s elements (place_of names x) xs in
@@ -139,7 +141,7 @@ module _ (names others : List (List ℕ)) (g h : List FofSymbol) (one_each : len
   individuals_case : TermClaim t.Individuals
   individuals_case bound d elements i j k =
       absurd (nowhere false 0 (and_parts _ _ (sym (is_term-apply h (length others) [] d)
-          ∙ ap (λ z. is_term h z d) (sym (term_meant-individuals others bound)) ∙ j)).0)
+      ∙ ap (λ z. is_term h z d) (sym (term_meant-individuals others bound)) ∙ j)).0)
 
   -- ---- the induction
 

@@ -31,9 +31,11 @@ then_sent true true true a b c f g h xs ys s t =
 then_sent true true false a b c f g h xs ys s t =
     (prefix_second a b c xs ys s.0 t.0, rose_second f g h s.1 t.1, later f g h s.1 t.2)
 then_sent true false true a b c f g h xs ys s t = absurd t
-then_sent true false false a b c f g h xs ys s t =
-    (prefix_first a c xs ys (prefix_keeps a b c xs s.0 t.0), rose_first f g h s.1 t.1,
-    later f g h s.2 t.1)
+then_sent true false false a b c f g h xs ys s t = (
+  prefix_first a c xs ys (prefix_keeps a b c xs s.0 t.0),
+  rose_first f g h s.1 t.1,
+  later f g h s.2 t.1,
+)
 then_sent false true still a b c f g h xs ys s t = absurd s
 then_sent false false true a b c f g h xs ys s t = absurd t
 then_sent false false false a b c f g h xs ys s t =

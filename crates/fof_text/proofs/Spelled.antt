@@ -26,6 +26,7 @@ blank_before w = go w.kind w.spelling
     choose : (v : Bool) → AllPass is_blank (if v then codes " " else [])
     choose true = (refl, tt)
     choose false = tt
+
     go : (k : WordKind) (s : List ℕ) → AllPass is_blank (before_of k s)
     go Lower s = tt
     go Upper s = tt
@@ -43,6 +44,7 @@ blank_after w = go w.kind w.spelling
     choose true u = (refl, tt)
     choose false true = (refl, tt)
     choose false false = tt
+
     go : (k : WordKind) (s : List ℕ) → AllPass is_blank (after_of k s)
     go Lower s = tt
     go Upper s = tt

@@ -11,17 +11,21 @@ pub record Splits (w : Writer) : Type 0 where
   pub at : (rest : List Token) → text (w rest) ≡ part w ++ text rest
 
 pub word_splits : (v : Token) → Splits (λ rest. v ∷ rest)
-word_splits v = record { at = λ rest.
-    ap (λ z. before v ++ z)
-        (ap (λ z. v.spelling ++ z) (ap (λ z. z ++ text rest) (sym (append-nil (after v))))
-        ∙ sym (append_assoc v.spelling (after v ++ []) (text rest)))
-    ∙ sym (append_assoc (before v) (v.spelling ++ (after v ++ [])) (text rest)) }
+word_splits v = record {
+  at = λ rest.
+      ap (λ z. before v ++ z)
+      (ap (λ z. v.spelling ++ z) (ap (λ z. z ++ text rest) (sym (append-nil (after v))))
+      ∙ sym (append_assoc v.spelling (after v ++ []) (text rest)))
+      ∙ sym (append_assoc (before v) (v.spelling ++ (after v ++ [])) (text rest));
+}
 
 pub then_splits : (u v : Writer) → Splits u → Splits v → Splits (λ rest. u (v rest))
-then_splits u v h k = record { at = λ rest.
-    h.at (v rest) ∙ ap (λ z. part u ++ z) (k.at rest)
-    ∙ sym (append_assoc (part u) (part v) (text rest))
-    ∙ ap (λ z. z ++ text rest) (sym (h.at (v []))) }
+then_splits u v h k = record {
+  at = λ rest.
+      h.at (v rest) ∙ ap (λ z. part u ++ z) (k.at rest)
+      ∙ sym (append_assoc (part u) (part v) (text rest))
+      ∙ ap (λ z. z ++ text rest) (sym (h.at (v [])));
+}
 
 -- a word before a part
 pub word_then : (v : Token) (w : Writer) → Splits w → Splits (λ rest. v ∷ w rest)
@@ -90,7 +94,7 @@ brackets_part w h = ap (λ z. codes "(" ++ z) (h.at (mark_word (codes ")") ∷ [
 
 pub chain_part : (m piece : List ℕ) → IsPiece m piece → (ws : List Writer) → AllSplit ws
     → part (in_brackets (separated (mark_word m) ws))
-      ≡ (codes "(" ++ in_row piece (map part ws)) ++ codes ")"
+    ≡ (codes "(" ++ in_row piece (map part ws)) ++ codes ")"
 chain_part m piece p ws h =
     brackets_part (separated (mark_word m) ws) (separated_splits (mark_word m) ws h)
     ∙ ap (λ z. (codes "(" ++ z) ++ codes ")") (separated_is m piece p ws h)
@@ -127,7 +131,7 @@ applied_alone n ws e = ap (λ z. part (applied n z)) e
 
 pub applied_part : (n : List ℕ) (ws : List Writer) → AllSplit ws → 0 < length ws
     → part (applied n ws)
-      ≡ ((part (λ rest. name_word n ∷ rest) ++ codes "(") ++ in_row (codes ",") (map part ws)) ++ codes ")"
+    ≡ ((part (λ rest. name_word n ∷ rest) ++ codes "(") ++ in_row (codes ",") (map part ws)) ++ codes ")"
 applied_part n [] h l = absurd (omega arith)
 applied_part n (w ∷ ws) h l =
     let inside = in_row (codes ",") (map part (w ∷ ws)) in
@@ -135,13 +139,13 @@ applied_part n (w ∷ ws) h l =
     (word_splits (name_word n)).at (in_brackets (separated (mark_word (codes ",")) (w ∷ ws)) [])
     ∙ ap (λ z. name ++ z) (chain_part (codes ",") (codes ",") comma_piece (w ∷ ws) h)
     ∙ sym (append_assoc (name ++ codes "(") inside (codes ")")
-        ∙ append_assoc name (codes "(") (inside ++ codes ")"))
+    ∙ append_assoc name (codes "(") (inside ++ codes ")"))
 
 -- ---- quantifiers
 
 pub quantified_part : (m : List ℕ) → IsPiece m m → (body : ℕ → Writer) (d : ℕ) → Splits (body (d + 1))
     → part (quantified m body d)
-      ≡ (((m ++ codes "[") ++ part (λ rest. variable_word d ∷ rest)) ++ codes "]: ") ++ part (body (d + 1))
+    ≡ (((m ++ codes "[") ++ part (λ rest. variable_word d ∷ rest)) ++ codes "]: ") ++ part (body (d + 1))
 quantified_part m p body d h =
     let name = part (λ rest. variable_word d ∷ rest) in
     let scope = part (body (d + 1)) in
@@ -149,8 +153,8 @@ quantified_part m p body d h =
     p.at (mark_word (codes "[") ∷ variable_word d ∷ closing)
     ∙ ap (λ z. m ++ (codes "[" ++ z)) ((word_splits (variable_word d)).at closing)
     ∙ sym (append_assoc ((m ++ codes "[") ++ name) (codes "]: ") scope
-        ∙ append_assoc (m ++ codes "[") name (codes "]: " ++ scope)
-        ∙ append_assoc m (codes "[") (name ++ (codes "]: " ++ scope)))
+    ∙ append_assoc (m ++ codes "[") name (codes "]: " ++ scope)
+    ∙ append_assoc m (codes "[") (name ++ (codes "]: " ++ scope)))
 
 pub all_piece : IsPiece (codes "!") (codes "!")
 all_piece = record { at = λ rest. refl }

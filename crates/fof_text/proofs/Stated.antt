@@ -1,11 +1,12 @@
 -- The text of a problem states the problem.
-use Rattle.std.proofs.Common.{◌≡◌, ℕ, List, [], ◌∷◌, ◌++◌, length, map, None, refl, sym, ap, subst, arith, append_assoc}
+use Rattle.std.proofs.Common.{◌≡◌, ◌+◌, ℕ, List, [], ◌∷◌, ◌++◌, length, map, None, refl, sym, ap, subst, arith, append_assoc}
 use Rattle.std.specs.List.{AllByRecursion}
 use Rattle.std.proofs.Math.Nat.{le_refl}
 use Rattle.fof_models.specs.declared.problem.FofSymbol.{FofSymbol}
 use Rattle.fof_models.specs.declared.problem.FofFormula.{FofFormula}
 use Rattle.fof_models.specs.Sound.{IsSoundFormula}
 use Rattle.tptp_words.specs.Text.{Token, Placed, tokens, place, IsText, comment, AllPass, not_feed, percent, line_feed}
+use Rattle.tptp_words.specs.Layout.{placed_from}
 use Rattle.tptp_words.proofs.ReadBack as back
 use Rattle.tptp_phrases.specs.Phrase.{Row}
 use Rattle.tptp_syntax.specs.declared.entry.Entry.{Entry}
@@ -31,7 +32,7 @@ module _ (names : List (List ℕ)) (g : List FofSymbol) (one_each : length names
 
   reads_of : (f : FofFormula) → IsSoundFormula g f
       → FormulaReads names g one_each differ writable 0 f.body
-          ((formula_words names f.body).is 0) ((raw_formula names f.body).is 0)
+      ((formula_words names f.body).is 0) ((raw_formula names f.body).is 0)
   reads_of f s =
       let few = s.binders in
       (formulas_read names g one_each differ writable f.body 0 (omega arith) s.typed s.pairs).0
@@ -47,8 +48,11 @@ module _ (names : List (List ℕ)) (g : List FofSymbol) (one_each : length names
   all_written [] s h = always _ (λ n. refl)
   all_written (f ∷ fs) s h =
       weaker
-      (λ n k. (problem_words names fs,
-          (entry_written names f h.0 n k.0 (problem_words names fs)).it, k.1))
+      (λ n k. (
+        problem_words names fs,
+        (entry_written names f h.0 n k.0 (problem_words names fs)).it,
+        k.1,
+      ))
       (both (reads_of f s.0).writes (all_written fs s.1 h.1))
 
   all_stand : (fs : List FofFormula) → AreSound fs → StandFor names (map (raw_entry names) fs) fs
@@ -61,6 +65,12 @@ unfolding file
 as_file n ws es h =
     (seq _ _ [] es (rows (entry (strict n)) ws [] es h) (give (record { entries = es }) [])).it
 
+tokens-placed : (at : ℕ) (ws : List Token) → tokens (placed_from before after at ws) ≡ ws
+tokens-placed at [] = refl
+tokens-placed at (w ∷ ws) =
+    ap (λ z. w ∷ z)
+    (tokens-placed (at + length (before w) + length w.spelling + length (after w)) ws)
+
 pub states : TextStatesItsProblem
 unfolding text_of
 states names p s h =
@@ -69,15 +79,21 @@ states names p s h =
     let words : List Token = problem_words names p.formulas in
     let entries : List Entry = map (raw_entry names) p.formulas in
     let joined : Joined words =
-        all_joined names g h.one_each h.differ h.symbols p.formulas s.formulas h.formulas in
-    let read = back.reads before after blank_before blank_after (length (text_of names p)) words joined in
-    let derives : Derive words (record { entries = entries }) =
-        (derived.depth, as_file derived.depth words entries
-            (derived.holds derived.depth (le_refl derived.depth))) in
+    all_joined names g h.one_each h.differ h.symbols p.formulas s.formulas h.formulas in
+    let placed : List Placed = placed_from before after 0 words in
+    let same : tokens placed ≡ words = tokens-placed 0 words in
+    let read : IsText (length (text_of names p)) (text_of names p) placed None =
+    back.reads before after blank_before blank_after (length (text_of names p)) 0 words joined
+    (omega arith) in
+    let derives : Derive words (record { entries = entries }) = (
+      derived.depth,
+      as_file derived.depth words entries
+          (derived.holds derived.depth (le_refl derived.depth)),
+    ) in
     record {
       sound = s;
       file = record { entries = entries };
-      spelled = (read.0, read.2, subst (λ ws. Derive ws (record { entries = entries })) (sym read.1) derives);
+      spelled = (placed, read, subst (λ ws. Derive ws (record { entries = entries })) (sym same) derives);
       names = names;
       one_each = h.one_each;
       differ = h.differ;
@@ -91,9 +107,11 @@ placed_again : (total other : ℕ) (text : List ℕ) (ws : List Placed) → IsTe
     → (vs : List Placed) × (tokens vs ≡ tokens ws) × IsText other text vs None
 placed_again total other text [] h = ([], refl, h)
 placed_again total other text (w ∷ ws) (start, rest, gap, longest, from, more) =
-    let again = placed_again total other rest ws more in
-    (record { token = w.token; from = place other start } ∷ again.0,
-    ap (λ z. w.token ∷ z) again.1, (start, rest, gap, longest, refl, again.2))
+    let again = placed_again total other rest ws more in (
+      record { token = w.token; from = place other start } ∷ again.0,
+      ap (λ z. w.token ∷ z) again.1,
+      (start, rest, gap, longest, refl, again.2),
+    )
 
 comment_first : (body : List ℕ) (total : ℕ) (text : List ℕ) (ws : List Placed)
     → AllPass not_feed body → IsText total text ws None
@@ -109,9 +127,12 @@ comments_change_nothing body text p h s =
     record {
       sound = s.sound;
       file = s.file;
-      spelled = (again.0, subst (λ t. IsText (length whole) t again.0 None) (line_is body text)
-          (comment_first body (length whole) text again.0 h again.2),
-          subst (λ ws. Derive ws s.file) (sym again.1) s.spelled.2);
+      spelled = (
+        again.0,
+        subst (λ t. IsText (length whole) t again.0 None) (line_is body text)
+            (comment_first body (length whole) text again.0 h again.2),
+        subst (λ ws. Derive ws s.file) (sym again.1) s.spelled.2,
+      );
       names = s.names;
       one_each = s.one_each;
       differ = s.differ;

@@ -71,7 +71,7 @@ applied_term : (n : ℕ) (name : List ℕ) → IsWritable name → (ws : List Wr
 applied_term n name h ws rs k rest =
     as_term (strict (suc n)) (other _ _ (one _ _
     (application_of t.Apply (argument_at n) name (name_is name h).says ws rs
-        (all_arguments n ws rs k) rest)))
+    (all_arguments n ws rs k) rest)))
 
 -- ---- symbols
 
@@ -148,11 +148,11 @@ module _ (names : List (List ℕ)) (g : List FofSymbol) (one_each : length names
   rolled x h =
       let r = roll-FofTerm x in
       subst (λ s. Claim s (term_words names r) (raw_term names r) r)
-          (sym (fold-roll-FofTerm (ℕ → Bool) (is_term_step g) x))
+      (sym (fold-roll-FofTerm (ℕ → Bool) (is_term_step g) x))
       (subst (λ w. Claim (sound_layer x) w (raw_term names r) r)
-          (sym (fold-roll-FofTerm (ℕ → Writer) (term_words_step names) x))
+      (sym (fold-roll-FofTerm (ℕ → Writer) (term_words_step names) x))
       (subst (λ t. Claim (sound_layer x) (words_layer x) t r)
-          (sym (fold-roll-FofTerm (ℕ → RawTerm) (raw_term_step names) x)) h))
+      (sym (fold-roll-FofTerm (ℕ → RawTerm) (raw_term_step names) x)) h))
 
   abbrev of_kept : List Kept → List FofTerm
   of_kept xs = map (λ (e : Kept). e.0) xs
@@ -160,7 +160,7 @@ module _ (names : List (List ℕ)) (g : List FofSymbol) (one_each : length names
   all_kept : (xs : List Kept) (d : ℕ) → d < 2 ^ 64
       → list_all (λ (p : ℕ → Bool). p d) (map (is_term g) (of_kept xs)) ≡ true
       → TermsRead d (of_kept xs) (map (λ (w : ℕ → Writer). w d) (map (term_words names) (of_kept xs)))
-          (map (λ (r : ℕ → RawTerm). r d) (map (raw_term names) (of_kept xs)))
+      (map (λ (r : ℕ → RawTerm). r d) (map (raw_term names) (of_kept xs)))
   all_kept [] d l h = none_read d
   all_kept (x ∷ xs) d l h =
       let hs = and_parts _ _ h in more_read (x.1 d l hs.0) (all_kept xs d l hs.1)

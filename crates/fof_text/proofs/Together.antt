@@ -27,8 +27,8 @@ module _ (names others : List (List ℕ)) (g h : List FofSymbol) (one_each : len
   entry_satisfied (Statement n role formula) x y a b sa sb m =
       let meant = formulas_same names others g h one_each s structure formula [] in
       let here : Same names others g h one_each s structure x.body y.body =
-          subst (λ z. Same names others g h one_each s structure z y.body) a.2
-          (subst (Same names others g h one_each s structure _) b.2 meant) in
+      subst (λ z. Same names others g h one_each s structure z y.body) a.2
+      (subst (Same names others g h one_each s structure _) b.2 meant) in
       here.here 0 [] sa.typed sb.typed (record { enough = omega arith; below = tt }) ∙ m
 
   pub all_satisfied : (es : List Entry) (fs hs : List FofFormula) → StandFor names es fs
@@ -48,7 +48,7 @@ models_together once text p q a b (tables, are_model) =
     let model = IsModel-reading p tables are_model in
     let same_file : a.file ≡ b.file = once text a.file b.file a.spelled b.spelled in
     let stands : StandFor b.names a.file.entries q.formulas =
-        subst (λ (f : File). StandFor b.names f.entries q.formulas) (sym same_file) b.stands in
+    subst (λ (f : File). StandFor b.names f.entries q.formulas) (sym same_file) b.stands in
     let other = renamed a.names b.names q.signature s in
     let other_model : IsModel q other = record {
       structure = IsStructure-renamed a.names b.names q.signature s model.structure.inhabited;

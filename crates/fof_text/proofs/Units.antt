@@ -74,7 +74,7 @@ pub atom_unit : (n : ℕ) (name : List ℕ) → IsWritable name → (ws : List W
 atom_unit n name h ws rs k rest =
     other _ _ (other _ _ (other _ _ (other _ _ (other _ _ (other _ _ (one _ _
     (application_of f.Atom (argument_at n) name (name_is name h).says ws rs
-        (all_arguments n ws rs k) rest)))))))
+    (all_arguments n ws rs k) rest)))))))
 
 pub equal_unit : (n : ℕ) (w v : Writer) (s t : RawTerm) → Writes (term_at n) w s
     → Writes (term_at n) v t → Writes (unit_at n) (side_by_side (codes "=") w v) (f.Equal s t)
@@ -93,7 +93,7 @@ unequal_unit n w v s t h k rest =
 pub and_unit : (n : ℕ) (w v : Writer) (ws : List Writer) (r s : RawFormula) (rs : List RawFormula)
     → AllWrite (unit_at n) (w ∷ v ∷ ws) (r ∷ s ∷ rs)
     → Writes (unit_at (suc n)) (in_brackets (separated (mark_word (codes "&")) (w ∷ v ∷ ws)))
-        (f.And (r ∷ s ∷ rs))
+    (f.And (r ∷ s ∷ rs))
 and_unit n w v ws r s rs h =
     bracketed_unit n (separated (mark_word (codes "&")) (w ∷ v ∷ ws)) (f.And (r ∷ s ∷ rs))
     (λ rest. other _ _ (one _ _
@@ -102,7 +102,7 @@ and_unit n w v ws r s rs h =
 pub or_unit : (n : ℕ) (w v : Writer) (ws : List Writer) (r s : RawFormula) (rs : List RawFormula)
     → AllWrite (unit_at n) (w ∷ v ∷ ws) (r ∷ s ∷ rs)
     → Writes (unit_at (suc n)) (in_brackets (separated (mark_word (codes "|")) (w ∷ v ∷ ws)))
-        (f.Or (r ∷ s ∷ rs))
+    (f.Or (r ∷ s ∷ rs))
 or_unit n w v ws r s rs h =
     bracketed_unit n (separated (mark_word (codes "|")) (w ∷ v ∷ ws)) (f.Or (r ∷ s ∷ rs))
     (λ rest. other _ _ (other _ _ (one _ _
@@ -115,24 +115,26 @@ implies_unit n w v r s h k =
     bracketed_unit n (side_by_side (codes "=>") w v) (f.Implies r s)
     (λ rest. other _ _ (other _ _ (other _ _ (one _ _
     (pair_of (codes "=>") f.Implies _ _ w v r s (λ more. one_down n (h more))
-        (λ more. one_down n (k more)) rest)))))
+    (λ more. one_down n (k more)) rest)))))
 
 -- ---- quantifiers
 
 quantified_phrase : (n : ℕ) (m : List ℕ) (make : List Bound → RawFormula → RawFormula) (d : ℕ)
     → d < 2 ^ 64 → (body : ℕ → Writer) (r : RawFormula) → Writes (unit_at n) (body (d + 1)) r
     → Writes (quantified m make (bound Fof (strict (suc n))) (phrase.deeper (unit_rule Fof) (strict (suc n))))
-        (written.quantified m body d) (make (untyped (variable_name d) ∷ []) r)
+    (written.quantified m body d) (make (untyped (variable_name d) ∷ []) r)
 quantified_phrase n m make d l body r h rest =
     let scope : List Token = body (d + 1) rest in
     let closing : List Token = mark_word (codes "]") ∷ mark_word (codes ":") ∷ scope in
     seq _ _ (mark_word (codes "[") ∷ variable_word d ∷ closing) tt (sign_taken m _)
     (seq _ _ (variable_word d ∷ closing) tt (sign_taken (codes "[") _)
     (seq _ _ closing (untyped (variable_name d) ∷ [])
-        (list_of _ (λ rest. variable_word d ∷ rest) [] (untyped (variable_name d)) []
-            ((λ rest. seq _ _ rest (variable_name d)
-                (take _ (variable_word d) rest (variable_is d l).says)
-                (give (untyped (variable_name d)) rest)), tt) _)
+    (list_of _ (λ rest. variable_word d ∷ rest) [] (untyped (variable_name d)) [] (
+      (λ rest. seq _ _ rest (variable_name d)
+          (take _ (variable_word d) rest (variable_is d l).says)
+          (give (untyped (variable_name d)) rest)),
+      tt,
+    ) _)
     (seq _ _ (mark_word (codes ":") ∷ scope) tt (sign_taken (codes "]") _)
     (seq _ _ scope tt (sign_taken (codes ":") _)
     (seq _ _ rest r (one_down n (h rest))
@@ -141,13 +143,13 @@ quantified_phrase n m make d l body r h rest =
 pub for_all_unit : (n d : ℕ) → d < 2 ^ 64 → (body : ℕ → Writer) (r : RawFormula)
     → Writes (unit_at n) (body (d + 1)) r
     → Writes (unit_at (suc n)) (written.quantified (codes "!") body d)
-        (f.ForAll (untyped (variable_name d) ∷ []) r)
+    (f.ForAll (untyped (variable_name d) ∷ []) r)
 for_all_unit n d l body r h rest =
     one _ _ (quantified_phrase n (codes "!") f.ForAll d l body r h rest)
 
 pub exists_unit : (n d : ℕ) → d < 2 ^ 64 → (body : ℕ → Writer) (r : RawFormula)
     → Writes (unit_at n) (body (d + 1)) r
     → Writes (unit_at (suc n)) (written.quantified (codes "?") body d)
-        (f.Exists (untyped (variable_name d) ∷ []) r)
+    (f.Exists (untyped (variable_name d) ∷ []) r)
 exists_unit n d l body r h rest =
     other _ _ (one _ _ (quantified_phrase n (codes "?") f.Exists d l body r h rest))

@@ -65,7 +65,7 @@ application_of make inner n says (w ∷ ws) [] k rest = absurd k
 application_of make inner n says (w ∷ ws) (a ∷ items) k rest =
     other _ _
     (seq _ _ (in_brackets (separated (mark_word (codes ",")) (w ∷ ws)) rest) n
-        (take _ (name_word n) _ says)
+    (take _ (name_word n) _ says)
     (seq _ _ rest (a ∷ items) (arguments_of inner w ws a items k rest)
     (give (make n (a ∷ items)) rest)))
 

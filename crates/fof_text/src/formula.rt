@@ -13,13 +13,26 @@ use fof_models::Fof;
 
 /// Sends a formula that stands under `depth` binders.
 #[cycle(formulas)]
-pub(crate) fn put_formula<O: Sink>(formula: &Fof, depth: u32, names: &[Name], out: &mut O, going: bool) -> bool
+pub(crate) fn put_formula<O: Sink>(
+    formula: &Fof,
+    depth: u32,
+    names: &[Name],
+    out: &mut O,
+    going: bool,
+) -> bool
     ensures { depth + binder_count formula.now < 2 ^ 32 → Sent going (O.bytes out.old) (O.bytes out.new) (O.faults out.old) (O.faults out.new) result (part ((words.formula_words names.now formula.now).is depth)) }
 {
     match formula {
         Fof::True => put(b"$true", out, going),
         Fof::False => put(b"$false", out, going),
-        Fof::Atom(symbol, terms) => put_applied(*symbol, terms.as_slice(), depth, names, out, going),
+        Fof::Atom(symbol, terms) => put_applied(
+            *symbol,
+            terms.as_slice(),
+            depth,
+            names,
+            out,
+            going,
+        ),
         Fof::Equal(left, right) => put_sides(left, b" = ", right, depth, names, out, going),
         Fof::Not(inner) => put_negation(inner.get(), depth, names, out, going),
         Fof::And(parts) => put_chain(b" & ", parts.as_slice(), depth, names, out, going),
@@ -38,7 +51,13 @@ pub(crate) fn put_formula<O: Sink>(formula: &Fof, depth: u32, names: &[Name], ou
 
 /// Sends the negation of a formula.
 #[cycle(formulas)]
-fn put_negation<O: Sink>(formula: &Fof, depth: u32, names: &[Name], out: &mut O, going: bool) -> bool
+fn put_negation<O: Sink>(
+    formula: &Fof,
+    depth: u32,
+    names: &[Name],
+    out: &mut O,
+    going: bool,
+) -> bool
     ensures { depth + binder_count formula.now < 2 ^ 32 → Sent going (O.bytes out.old) (O.bytes out.new) (O.faults out.old) (O.faults out.new) result (part ((words.formula_words names.now formula.now).negated depth)) }
 {
     match formula {
@@ -52,7 +71,14 @@ fn put_negation<O: Sink>(formula: &Fof, depth: u32, names: &[Name], out: &mut O,
 
 /// Sends a quantifier with its variable, and the formula under it.
 #[cycle(formulas)]
-fn put_quantified<O: Sink>(piece: &[u8], inner: &Fof, depth: u32, names: &[Name], out: &mut O, going: bool) -> bool
+fn put_quantified<O: Sink>(
+    piece: &[u8],
+    inner: &Fof,
+    depth: u32,
+    names: &[Name],
+    out: &mut O,
+    going: bool,
+) -> bool
     ensures { depth + (binder_count inner.now + 1) < 2 ^ 32 → Sent going (O.bytes out.old) (O.bytes out.new) (O.faults out.old) (O.faults out.new) result (((piece.now ++ part (λ rest. words.variable_word depth ∷ rest)) ++ codes "]: ") ++ part ((words.formula_words names.now inner.now).is (depth + 1))) }
 {
     let going = put(piece, out, going);
@@ -63,7 +89,14 @@ fn put_quantified<O: Sink>(piece: &[u8], inner: &Fof, depth: u32, names: &[Name]
 
 /// Sends formulas in brackets, with a piece between each two.
 #[cycle(formulas)]
-fn put_chain<O: Sink>(piece: &[u8], parts: &[Fof], depth: u32, names: &[Name], out: &mut O, going: bool) -> bool
+fn put_chain<O: Sink>(
+    piece: &[u8],
+    parts: &[Fof],
+    depth: u32,
+    names: &[Name],
+    out: &mut O,
+    going: bool,
+) -> bool
     ensures { depth + sum (map binder_count parts.now) < 2 ^ 32 → Sent going (O.bytes out.old) (O.bytes out.new) (O.faults out.old) (O.faults out.new) result ((codes "(" ++ in_row piece.now (map (λ u. part ((words.formula_words names.now u).is depth)) parts.now)) ++ codes ")") }
 {
     let mut going = put(b"(", out, going);

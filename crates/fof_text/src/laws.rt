@@ -5,17 +5,14 @@ ghost use Rattle.fof_text.specs.Laws.{CommentsChangeNothing, StatedProblemsHaveM
 /// The text of a sound problem states the problem, where each symbol has a name of its own.
 pub fn text_states_its_problem()
     ensures { TextStatesItsProblem }
-{
-}
+{}
 
 /// A comment line in front of a text changes nothing of what the text states.
 pub fn comments_change_nothing()
     ensures { CommentsChangeNothing }
-{
-}
+{}
 
 /// Where one problem that a text states has a finite model, every problem that it states has one.
 pub fn stated_problems_have_models_together()
     ensures { StatedProblemsHaveModelsTogether }
-{
-}
+{}

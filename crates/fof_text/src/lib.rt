@@ -9,6 +9,8 @@ mod problem;
 mod put;
 mod term;
 
-pub use laws::{comments_change_nothing, stated_problems_have_models_together, text_states_its_problem};
+pub use laws::{
+    comments_change_nothing, stated_problems_have_models_together, text_states_its_problem,
+};
 pub use names::Names;
-pub use problem::{write_problem, WriteFault};
+pub use problem::{WriteFault, write_problem};

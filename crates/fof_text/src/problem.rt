@@ -12,10 +12,10 @@ ghost use Rattle.fof_models.specs.Sound.{IsSound, binder_count};
 ghost use Rattle.fof_text.specs.States.{AreNamed};
 ghost use Rattle.fof_text.specs.Written as words;
 
+use crate::Names;
 use crate::formula::put_formula;
 use crate::name::put_label;
 use crate::put::put;
-use crate::Names;
 use enc_base::{Name, Sink};
 use fof_models::{FofFormula, FofProblem, FofRole};
 use thiserror::Error;
@@ -50,7 +50,12 @@ fn put_entry<O: Sink>(entry: &FofFormula, names: &[Name], out: &mut O, going: bo
 }
 
 /// Sends formulas, each on a line of its own.
-fn put_entries<O: Sink>(entries: &[FofFormula], names: &[Name], out: &mut O, mut going: bool) -> bool
+fn put_entries<O: Sink>(
+    entries: &[FofFormula],
+    names: &[Name],
+    out: &mut O,
+    mut going: bool,
+) -> bool
     ensures { AllByRecursion (λ (f : FofFormula). binder_count f.body < 2 ^ 32) entries.now → Sent going (O.bytes out.old) (O.bytes out.new) (O.faults out.old) (O.faults out.new) result (written words.before words.after (words.problem_words names.now entries.now)) }
 {
     for entry in entries {
@@ -71,7 +76,11 @@ fn put_problem<O: Sink>(problem: &FofProblem, names: &Names, out: &mut O) -> boo
 ///
 /// The form is TPTP's `fof`, the variable of a binder being `X` followed by the number of
 /// binders around it. Nothing is written after a write that failed. Takes no memory.
-pub fn write_problem<O: Sink>(problem: &FofProblem, names: &Names, out: &mut O) -> Result<(), WriteFault>
+pub fn write_problem<O: Sink>(
+    problem: &FofProblem,
+    names: &Names,
+    out: &mut O,
+) -> Result<(), WriteFault>
     requires sound { IsSound problem.now }
     requires named { AreNamed names.now problem.now }
     ensures exact { OnOk result (Appends (O.bytes out.old) (O.bytes out.new) (words.text_of names.now problem.now)) }

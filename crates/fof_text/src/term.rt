@@ -16,14 +16,32 @@ fn put_term<O: Sink>(term: &FofTerm, depth: u32, names: &[Name], out: &mut O, go
     ensures { Sent going (O.bytes out.old) (O.bytes out.new) (O.faults out.old) (O.faults out.new) result (part (words.term_words names.now term.now depth)) }
 {
     match term {
-        FofTerm::Var(index) => put_variable(depth.saturating_sub(*index).saturating_sub(1), out, going),
-        FofTerm::Apply(symbol, terms) => put_applied(*symbol, terms.as_slice(), depth, names, out, going),
+        FofTerm::Var(index) => put_variable(
+            depth.saturating_sub(*index).saturating_sub(1),
+            out,
+            going,
+        ),
+        FofTerm::Apply(symbol, terms) => put_applied(
+            *symbol,
+            terms.as_slice(),
+            depth,
+            names,
+            out,
+            going,
+        ),
     }
 }
 
 /// Sends a symbol, with its arguments in brackets where it has any.
 #[cycle(terms)]
-pub(crate) fn put_applied<O: Sink>(symbol: u32, terms: &[FofTerm], depth: u32, names: &[Name], out: &mut O, going: bool) -> bool
+pub(crate) fn put_applied<O: Sink>(
+    symbol: u32,
+    terms: &[FofTerm],
+    depth: u32,
+    names: &[Name],
+    out: &mut O,
+    going: bool,
+) -> bool
     ensures { Sent going (O.bytes out.old) (O.bytes out.new) (O.faults out.old) (O.faults out.new) result (part (words.applied (name_at names.now symbol) (map (λ t. words.term_words names.now t depth) terms.now))) }
 {
     let mut going = put_name(symbol, names, out, going);
@@ -39,7 +57,15 @@ pub(crate) fn put_applied<O: Sink>(symbol: u32, terms: &[FofTerm], depth: u32, n
 }
 
 /// Sends two terms, and a piece between them.
-pub(crate) fn put_sides<O: Sink>(left: &FofTerm, piece: &[u8], right: &FofTerm, depth: u32, names: &[Name], out: &mut O, going: bool) -> bool
+pub(crate) fn put_sides<O: Sink>(
+    left: &FofTerm,
+    piece: &[u8],
+    right: &FofTerm,
+    depth: u32,
+    names: &[Name],
+    out: &mut O,
+    going: bool,
+) -> bool
     ensures { Sent going (O.bytes out.old) (O.bytes out.new) (O.faults out.old) (O.faults out.new) result ((part (words.term_words names.now left.now depth) ++ piece.now) ++ part (words.term_words names.now right.now depth)) }
 {
     let going = put_term(left, depth, names, out, going);

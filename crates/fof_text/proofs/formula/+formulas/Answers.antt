@@ -40,7 +40,7 @@ put_formula-returns-in-Implies g t c = λ small.
     let is = c.in-Implies.is ∙ ap (λ z. F.Implies z c.in-Implies.right) (sym c.get-in-Implies.ensures) ∙ ap (F.Implies c.get-in-Implies.result.now) (sym c.get-in-Implies-2.ensures) in
     let smalls = few.implies_few c.args.depth (2 ^ 32) c.args.formula.now c.get-in-Implies.result.now c.get-in-Implies-2.result.now is small in
     sent_as _ _ _ _ _ _ _ _ (sym (form.implies_is c.args.names.now c.args.depth c.args.formula.now c.get-in-Implies.result.now c.get-in-Implies-2.result.now is))
-        (then_sent _ _ _ _ _ _ _ _ _ _ _ (then_sent _ _ _ _ _ _ _ _ _ _ _ (then_sent _ _ _ _ _ _ _ _ _ _ _ (then_sent _ _ _ _ _ _ _ _ _ _ _ c.put-going.ensures (c.put_formula-going.ensures smalls.0)) c.put-going-in-Implies.ensures) (c.put_formula-going-in-Implies.ensures smalls.1)) c.put-in-Implies.ensures)
+    (then_sent _ _ _ _ _ _ _ _ _ _ _ (then_sent _ _ _ _ _ _ _ _ _ _ _ (then_sent _ _ _ _ _ _ _ _ _ _ _ (then_sent _ _ _ _ _ _ _ _ _ _ _ c.put-going.ensures (c.put_formula-going.ensures smalls.0)) c.put-going-in-Implies.ensures) (c.put_formula-going-in-Implies.ensures smalls.1)) c.put-in-Implies.ensures)
 
 pub put_formula-returns-in-ForAll : goal.put_formula-returns-in-ForAll
 put_formula-returns-in-ForAll g t c = λ small.
@@ -63,15 +63,15 @@ pub put_quantified-returns : goal.put_quantified-returns
 put_quantified-returns g t c = λ small.
     let next : c.saturating_add.result ≡ c.args.depth + 1 = omega (arith, c.saturating_add.ensures, small) in
     sent_as _ _ _ _ _ _ _ _ (ap (λ k. ((c.args.piece.now ++ part (λ rest. variable_word c.args.depth ∷ rest)) ++ codes "]: ") ++ part ((formula_words c.args.names.now c.args.inner.now).is k)) next)
-        (then_sent _ _ _ _ _ _ _ _ _ _ _ (then_sent _ _ _ _ _ _ _ _ _ _ _ (then_sent _ _ _ _ _ _ _ _ _ _ _ c.put-going.ensures c.put_variable-going.ensures) c.put-going-2.ensures) (c.put_formula.ensures (omega (arith, next, small))))
+    (then_sent _ _ _ _ _ _ _ _ _ _ _ (then_sent _ _ _ _ _ _ _ _ _ _ _ (then_sent _ _ _ _ _ _ _ _ _ _ _ c.put-going.ensures c.put_variable-going.ensures) c.put-going-2.ensures) (c.put_formula.ensures (omega (arith, next, small))))
 
 pub put_chain-loop-i-preserved : goal.put_chain-loop-i-preserved
 put_chain-loop-i-preserved g t c = λ small.
     sent_as _ _ _ _ _ _ _ _ (sym (form.row_next (form.formula_part c.args.names.now c.args.depth) c.args.piece.now c.args.parts.now c.loop-i.i c.index-parts-i.result c.loop-i-test.true c.index-parts-i.is))
-        (then_sent _ _ _ _ _ _ _ _ _ _ _ (then_sent _ _ _ _ _ _ _ _ _ _ _ (c.loop-i.invariant small) c.put_between-going.ensures)
-            (c.put_formula-going.ensures (few.one_few c.args.depth (2 ^ 32) c.args.parts.now c.loop-i.i c.index-parts-i.result c.loop-i-test.true c.index-parts-i.is small)))
+    (then_sent _ _ _ _ _ _ _ _ _ _ _ (then_sent _ _ _ _ _ _ _ _ _ _ _ (c.loop-i.invariant small) c.put_between-going.ensures)
+    (c.put_formula-going.ensures (few.one_few c.args.depth (2 ^ 32) c.args.parts.now c.loop-i.i c.index-parts-i.result c.loop-i-test.true c.index-parts-i.is small)))
 
 pub put_chain-returns : goal.put_chain-returns
 put_chain-returns g t c = λ small.
     sent_as _ _ _ _ _ _ _ _ (ap (λ z. (codes "(" ++ z) ++ codes ")") (form.row_end (form.formula_part c.args.names.now c.args.depth) c.args.piece.now c.args.parts.now c.loop-i.i c.loop-i-test.false))
-        (then_sent _ _ _ _ _ _ _ _ _ _ _ (then_sent _ _ _ _ _ _ _ _ _ _ _ c.put-going.ensures (c.loop-i.invariant small)) c.put.ensures)
+    (then_sent _ _ _ _ _ _ _ _ _ _ _ (then_sent _ _ _ _ _ _ _ _ _ _ _ c.put-going.ensures (c.loop-i.invariant small)) c.put.ensures)

@@ -9,9 +9,9 @@ use Rattle.fof_text.proofs.problem.put_problem.Goals as goal
 pub returns : goal.returns
 returns g c =
     sent_as true c.put_entries.result (g.O.Sink.bytes c.args.out.now) (g.O.Sink.bytes c.put_entries.new.out)
-        (g.O.Sink.faults c.args.out.now) (g.O.Sink.faults c.put_entries.new.out) _ _
-        (ap (λ fs. written before after (problem_words c.as_slice-2.result.now fs)) c.as_slice.ensures
-            ∙ ap (λ ns. written before after (problem_words ns c.args.problem.now.formulas)) c.as_slice-2.ensures
-            ∙ whole_text c.args.names.now c.args.problem.now)
-        (c.put_entries.ensures (subst HaveFew (sym c.as_slice.ensures)
-            (sound_few c.args.problem.now c.requires)))
+    (g.O.Sink.faults c.args.out.now) (g.O.Sink.faults c.put_entries.new.out) _ _
+    (ap (λ fs. written before after (problem_words c.as_slice-2.result.now fs)) c.as_slice.ensures
+    ∙ ap (λ ns. written before after (problem_words ns c.args.problem.now.formulas)) c.as_slice-2.ensures
+    ∙ whole_text c.args.names.now c.args.problem.now)
+    (c.put_entries.ensures (subst HaveFew (sym c.as_slice.ensures)
+    (sound_few c.args.problem.now c.requires)))
