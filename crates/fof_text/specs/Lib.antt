@@ -4,3 +4,4 @@ pub mod States
 pub mod Written
 pub mod Laws
 pub mod Sent
+pub mod Uses

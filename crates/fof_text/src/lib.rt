@@ -1,6 +1,7 @@
 //! The text of a first-order problem, what a text states, and the names of its symbols.
 #![tactic(auto)]
 
+mod choose;
 mod formula;
 mod laws;
 mod name;
@@ -8,6 +9,7 @@ mod names;
 mod problem;
 mod put;
 mod term;
+mod uses;
 
 pub use laws::{
     comments_change_nothing, stated_problems_have_models_together, text_states_its_problem,
