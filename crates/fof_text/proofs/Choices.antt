@@ -159,7 +159,7 @@ taken_if true w h = refl
 taken_if false true h = refl
 taken_if false false h = absurd (cc h)
 
-free_found : (wanted earlier : List (List ℕ)) (name : List ℕ)
+pub free_found : (wanted earlier : List (List ℕ)) (name : List ℕ)
     → length earlier + length wanted < 2 ^ 64 - 1
     → is_free wanted earlier (numbered name (free_number wanted earlier name)) ≡ true
 free_found wanted earlier name few =

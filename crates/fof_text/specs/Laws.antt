@@ -1,12 +1,15 @@
 -- What is promised of texts and of the problems that they state.
-use Rattle.std.specs.Prelude.{◌≡◌, ℕ, List, ◌++◌}
+use Rattle.std.specs.Prelude.{◌≡◌, ℕ, ◌+◌, ◌<◌, ◌^◌, true, false, List, ◌++◌, length}
+use Rattle.std.specs.List.{AllByRecursion}
+use Rattle.fof_models.specs.declared.problem.FofFormula.{FofFormula}
 use Rattle.fof_models.specs.declared.problem.FofProblem.{FofProblem}
 use Rattle.fof_models.specs.Sound.{IsSound}
 use Rattle.fof_models.specs.Models.{HasFiniteModel}
 use Rattle.tptp_words.specs.Text.{AllPass, not_feed}
 use Rattle.tptp_syntax.specs.declared.entry.File.{File}
 use Rattle.tptp_syntax.specs.Files.{Spells}
-use Rattle.fof_text.specs.States.{States, AreNamed}
+use Rattle.fof_text.specs.Names.{chosen_names, free_number, is_free, numbered, wanted_names}
+use Rattle.fof_text.specs.States.{IsWritable, States, AreNamed}
 use Rattle.fof_text.specs.Written.{comment_line, text_of}
 
 -- the text of a sound problem states it, where each symbol has a name of its own
@@ -29,3 +32,21 @@ abbrev pub StatedProblemsHaveModelsTogether : Type 0
 StatedProblemsHaveModelsTogether = OneFile →
     (text : List ℕ) (p q : FofProblem) → States text p → States text q
     → HasFiniteModel p → HasFiniteModel q
+
+-- ---- chosen names
+
+-- the number in a chosen name makes a free one, and no smaller number does
+abbrev pub NumbersAreLeast : Type 0
+NumbersAreLeast =
+    (wanted earlier : List (List ℕ)) (name : List ℕ) → length earlier + length wanted < 2 ^ 63
+    → (is_free wanted earlier (numbered name (free_number wanted earlier name)) ≡ true)
+      × ((k : ℕ) → k < free_number wanted earlier name
+          → is_free wanted earlier (numbered name k) ≡ false)
+
+-- chosen names are names of a problem, where the wanted names and those of the formulas can be
+-- written
+abbrev pub ChosenNamesAreNames : Type 0
+ChosenNamesAreNames =
+    (p : FofProblem) → IsSound p → AllByRecursion IsWritable (wanted_names p.signature)
+    → AllByRecursion (λ (f : FofFormula). IsWritable f.name) p.formulas
+    → AreNamed (chosen_names p.signature) p

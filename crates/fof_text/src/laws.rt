@@ -1,6 +1,6 @@
 //! Laws over what a text states.
 
-ghost use Rattle.fof_text.specs.Laws.{CommentsChangeNothing, StatedProblemsHaveModelsTogether, TextStatesItsProblem};
+ghost use Rattle.fof_text.specs.Laws.{ChosenNamesAreNames, CommentsChangeNothing, NumbersAreLeast, StatedProblemsHaveModelsTogether, TextStatesItsProblem};
 
 /// The text of a sound problem states the problem, where each symbol has a name of its own.
 pub fn text_states_its_problem()
@@ -16,3 +16,15 @@ pub fn comments_change_nothing()
 pub fn stated_problems_have_models_together()
     ensures { StatedProblemsHaveModelsTogether }
 {}
+
+/// A name that is chosen with a number is a free one, and it is none with a smaller number.
+pub fn numbers_are_least()
+    ensures { NumbersAreLeast }
+{
+}
+
+/// Chosen names are one for each symbol, differ and can be written, where the wanted names can be.
+pub fn chosen_names_are_names()
+    ensures { ChosenNamesAreNames }
+{
+}
