@@ -21,7 +21,7 @@ passed wanted earlier (n ∷ ns) = passed wanted (choice wanted earlier n ∷ ea
 
 choices-append : (wanted earlier : List (List ℕ)) (ns : List (List ℕ)) (n : List ℕ)
     → choices wanted earlier (ns ++ n ∷ [])
-      ≡ choices wanted earlier ns ++ choice wanted (passed wanted earlier ns) n ∷ []
+    ≡ choices wanted earlier ns ++ choice wanted (passed wanted earlier ns) n ∷ []
 choices-append wanted earlier [] n = refl
 choices-append wanted earlier (m ∷ ns) n =
     ap (λ z. choice wanted earlier m ∷ z)
@@ -29,7 +29,7 @@ choices-append wanted earlier (m ∷ ns) n =
 
 passed-append : (wanted earlier : List (List ℕ)) (ns : List (List ℕ)) (n : List ℕ)
     → passed wanted earlier (ns ++ n ∷ [])
-      ≡ choice wanted (passed wanted earlier ns) n ∷ passed wanted earlier ns
+    ≡ choice wanted (passed wanted earlier ns) n ∷ passed wanted earlier ns
 passed-append wanted earlier [] n = refl
 passed-append wanted earlier (m ∷ ns) n =
     passed-append wanted (choice wanted earlier m ∷ earlier) ns n
@@ -74,7 +74,7 @@ are_whole signature i names uses l h =
 
 pub limit_is : (signature front : List FofSymbol) (i : ℕ) → length front ≡ i
     → i + length signature
-      ≡ length (passed (wanted_names signature) [] (wanted_names front)) + length (wanted_names signature)
+    ≡ length (passed (wanted_names signature) [] (wanted_names front)) + length (wanted_names signature)
 limit_is signature front i e =
     let before = length-passed (wanted_names signature) [] (wanted_names front) in
     let fronts = length-map front (λ (symbol : FofSymbol). symbol.wanted) in
@@ -119,7 +119,7 @@ room zero f ns differ all = omega arith
 room (suc n) f ns differ all =
     let last = all n (omega arith) in
     let rest = room n f (without ns (f n)) (λ j k l m. differ j k l (omega arith))
-            (λ j l. among_without ns (f n) (f j) (differ j n l (omega arith)) (all j (omega arith))) in
+    (λ j l. among_without ns (f n) (f j) (differ j n l (omega arith)) (all j (omega arith))) in
     let long = length-without ns (f n) last in
     omega (arith, rest, long)
 
@@ -143,9 +143,9 @@ least_below-says (suc n) test = go (test 0) refl (least_below-says n (λ k. test
   where
     go : (v : Bool) → test 0 ≡ v
         → (test (suc (least_below n (λ k. test (suc k)))) ≡ true)
-          ⊎ (((j : ℕ) → j < n → test (suc j) ≡ false) × (least_below n (λ k. test (suc k)) ≡ n))
+        ⊎ (((j : ℕ) → j < n → test (suc j) ≡ false) × (least_below n (λ k. test (suc k)) ≡ n))
         → (test (if v then 0 else suc (least_below n (λ k. test (suc k)))) ≡ true)
-          ⊎ (((j : ℕ) → j < suc n → test j ≡ false) × ((if v then 0 else suc (least_below n (λ k. test (suc k)))) ≡ suc n))
+        ⊎ (((j : ℕ) → j < suc n → test j ≡ false) × ((if v then 0 else suc (least_below n (λ k. test (suc k)))) ≡ suc n))
     go true e rest = inl e
     go false e (inl h) = inl h
     go false e (inr (none, last)) = inr (all, ap suc last)
@@ -167,8 +167,10 @@ free_found wanted earlier name few =
   where
     n : ℕ
     n = length earlier + length wanted
+
     test : ℕ → Bool
     test k = is_free wanted earlier (numbered name k)
+
     absent : (((j : ℕ) → j < n → test j ≡ false) × (least_below n test ≡ n))
         → test (least_below n test) ≡ true
     absent (none, last) = go (test n) refl
@@ -176,14 +178,15 @@ free_found wanted earlier name few =
         taken : (j : ℕ) → test j ≡ false → is_among (earlier ++ wanted) (numbered name j) ≡ true
         taken j h = is_among-append earlier wanted (numbered name j)
             ∙ taken_if (is_among earlier (numbered name j)) (is_among wanted (numbered name j)) h
+
         go : (v : Bool) → test n ≡ v → test (least_below n test) ≡ true
         go true e = ap test last ∙ e
         go false e =
             let long = length-append earlier wanted in
             let bound = room (suc n) (numbered name) (earlier ++ wanted)
-                    (λ j k l m. numbered_differ name j k l (omega (arith, few, m)))
-                    (λ j l. taken j (⊎_elim (λ b. none j b) (λ b. subst (λ z. test z ≡ false) (sym b) e)
-                        (split j n l))) in
+            (λ j k l m. numbered_differ name j k l (omega (arith, few, m)))
+            (λ j l. taken j (⊎_elim (λ b. none j b) (λ b. subst (λ z. test z ≡ false) (sym b) e)
+            (split j n l))) in
             absurd (omega (arith, long, bound))
           where
             split : (j n : ℕ) → j < suc n → (j < n) ⊎ (j ≡ n)
@@ -237,10 +240,11 @@ choices_differ : (wanted earlier ns : List (List ℕ))
     → length earlier + length ns + length wanted < 2 ^ 64 - 1 → AllDiffer (choices wanted earlier ns)
 choices_differ wanted earlier [] few = tt
 choices_differ wanted earlier (n ∷ ns) few =
-    let c : List ℕ = choice wanted earlier n in
-    (absent_place (choices wanted (c ∷ earlier) ns) c
-        (earlier_absent wanted (c ∷ earlier) ns c (omega arith) (ap (λ v. v || is_among earlier c) (same_self c))),
-    choices_differ wanted (c ∷ earlier) ns (omega arith))
+    let c : List ℕ = choice wanted earlier n in (
+      absent_place (choices wanted (c ∷ earlier) ns) c
+          (earlier_absent wanted (c ∷ earlier) ns c (omega arith) (ap (λ v. v || is_among earlier c) (same_self c))),
+      choices_differ wanted (c ∷ earlier) ns (omega arith),
+    )
 
 pub chosen_differ : (signature : List FofSymbol) → length signature < 2 ^ 62
     → AllDiffer (chosen_names signature)

@@ -26,9 +26,10 @@ least_below-before (suc n) test k l =
     go false e (suc k) l rest = rest k (omega arith)
 
 pub numbers_least : NumbersAreLeast
-numbers_least wanted earlier name few =
-    (free_found wanted earlier name (omega arith),
-    least_below-before (length earlier + length wanted) (λ k. is_free wanted earlier (numbered name k)))
+numbers_least wanted earlier name few = (
+  free_found wanted earlier name (omega arith),
+  least_below-before (length earlier + length wanted) (λ k. is_free wanted earlier (numbered name k)),
+)
 
 -- ---- names that can be written
 
@@ -43,7 +44,7 @@ decimal_printable : (k : ℕ) → k < 2 ^ 64 → AllPass is_printable (decimal k
 decimal_printable =
     decimal_by_steps (λ n ds. AllPass is_printable ds) (λ n l. (digit_is_printable n l, tt))
     (λ n ds l h. pass_append is_printable ds ((48 + n % 10) ∷ []) h
-        (digit_is_printable (n % 10) (omega arith), tt))
+    (digit_is_printable (n % 10) (omega arith), tt))
 
 some_append : (us vs : List ℕ) → some_bytes us ≡ true → some_bytes (us ++ vs) ≡ true
 some_append [] vs h = absurd (cc h)
@@ -51,9 +52,10 @@ some_append (b ∷ us) vs h = refl
 
 numbered_writable : (name : List ℕ) (k : ℕ) → k < 2 ^ 64 → IsWritable name
     → IsWritable (numbered name k)
-numbered_writable name k l h =
-    (some_append name (codes "_" ++ decimal k) h.0,
-    pass_append is_printable name (codes "_" ++ decimal k) h.1 (refl, decimal_printable k l))
+numbered_writable name k l h = (
+  some_append name (codes "_" ++ decimal k) h.0,
+  pass_append is_printable name (codes "_" ++ decimal k) h.1 (refl, decimal_printable k l),
+)
 
 least_below-within : (n : ℕ) (test : ℕ → Bool) → least_below n test ≤ n
 least_below-within zero test = omega arith
@@ -71,6 +73,7 @@ choice_writable wanted earlier name few h = go (is_among earlier name)
   where
     within : free_number wanted earlier name ≤ length earlier + length wanted
     within = least_below-within (length earlier + length wanted) (λ k. is_free wanted earlier (numbered name k))
+
     go : (v : Bool) → IsWritable (if v then numbered name (free_number wanted earlier name) else name)
     go true = numbered_writable name (free_number wanted earlier name) (omega (arith, few, within)) h
     go false = h
@@ -79,9 +82,10 @@ choices_writable : (wanted earlier ns : List (List ℕ))
     → length earlier + length ns + length wanted < 2 ^ 64 → AllByRecursion IsWritable ns
     → AllByRecursion IsWritable (choices wanted earlier ns)
 choices_writable wanted earlier [] few h = tt
-choices_writable wanted earlier (n ∷ ns) few h =
-    (choice_writable wanted earlier n (omega arith) h.0,
-    choices_writable wanted (choice wanted earlier n ∷ earlier) ns (omega arith) h.1)
+choices_writable wanted earlier (n ∷ ns) few h = (
+  choice_writable wanted earlier n (omega arith) h.0,
+  choices_writable wanted (choice wanted earlier n ∷ earlier) ns (omega arith) h.1,
+)
 
 pub names_are_names : ChosenNamesAreNames
 names_are_names p s wanted named =

@@ -31,16 +31,16 @@ module _ {K X : Type 0} (eq : K → K → Bool) (test : K → Bool) where
 
 pub is_set : (m n : Uses) (key : Vec ℕ Global) (how : Use)
     → tree.UpdatesBy (λ (x y : Vec ℕ Global). slice_cmp nat_cmp x.items y.items)
-        (λ (k : Vec ℕ Global). slice_cmp nat_cmp key.items k.items) m n (Some how)
+    (λ (k : Vec ℕ Global). slice_cmp nat_cmp key.items k.items) m n (Some how)
     → IsSet m key.items how n
 is_set m n key how h other =
     ⊎_elim
     (λ y. subst (λ l. use_at n l ≡ Some how) ((bytes_decides key.items other).0 y) h.1
-        ∙ sym (cond-true (bytes_eq key.items other) (Some how) (use_at m other) y))
+    ∙ sym (cond-true (bytes_eq key.items other) (Some how) (use_at m other) y))
     (λ e. other_entries _ _ _ _ h.3 _
-        (λ x y. (eq_by_cmp_equiv nat_list_cmp_total).congr other x.items y.items)
-        (λ k. apart key.items other k.items e)
-        ∙ sym (cond-false (bytes_eq key.items other) (Some how) (use_at m other) e))
+    (λ x y. (eq_by_cmp_equiv nat_list_cmp_total).congr other x.items y.items)
+    (λ k. apart key.items other k.items e)
+    ∙ sym (cond-false (bytes_eq key.items other) (Some how) (use_at m other) e))
     (cases_Bool (bytes_eq key.items other))
 
 -- ---- names among others
@@ -120,7 +120,7 @@ least_below_is (suc n) test zero within below here =
 least_below_is (suc n) test (suc k) within below here =
     ap (λ v. if v then 0 else suc (least_below n (λ j. test (suc j)))) (below 0 (omega arith))
     ∙ ap suc (least_below_is n (λ j. test (suc j)) k (omega arith) (λ j l. below (suc j) (omega arith))
-        (λ l. here (omega arith)))
+    (λ l. here (omega arith)))
 
 -- ---- what is known
 
@@ -139,7 +139,7 @@ by_name : (P : List ℕ → Option Use → Type 0) (old new : Uses) (name : List
 by_name P old new name how set here there x =
     ⊎_elim
     (λ e. subst (P x) (sym (set x ∙ cond-true (bytes_eq name x) (Some how) (use_at old x) e))
-        (subst (λ z. P z (Some how)) ((bytes_decides name x).0 e) here))
+    (subst (λ z. P z (Some how)) ((bytes_decides name x).0 e) here))
     (λ e. subst (P x) (sym (set x ∙ cond-false (bytes_eq name x) (Some how) (use_at old x) e)) (there x e))
     (cases_Bool (bytes_eq name x))
 
@@ -153,27 +153,27 @@ pub known_wanted : (wanted : List (List ℕ)) (name : List ℕ) (how : Use) (old
 known_wanted wanted name how old new k set h n =
     let wider : List (List ℕ) = wanted ++ name ∷ [] in
     let joined : (x : List ℕ) → is_among wider x ≡ (is_among wanted x || (same x name || false)) =
-        is_among-append wanted (name ∷ []) in
+    is_among-append wanted (name ∷ []) in
     let long : length wider ≡ length wanted + 1 = length-append wanted (name ∷ []) in
     record {
       taken = by_name (λ x o. is_some o ≡ is_among wider x) old new name how set
           (sym (joined name ∙ ap (λ v. is_among wanted name || (v || false)) (same_self name)
-              ∙ or-true (is_among wanted name)))
+          ∙ or-true (is_among wanted name)))
           (λ x e. k.taken x ∙ sym (joined x ∙ ap (λ v. is_among wanted x || (v || false)) (not_same name x e)
-              ∙ or_false (is_among wanted x)));
+          ∙ or_false (is_among wanted x)));
       had = by_name (λ x o. (u : Use) → o ≡ Some u → u.had ≡ false) old new name how set
           (λ u e. subst (λ (z : Use). z.had ≡ false) (same_use how u e) h)
           (λ x e. k.had x);
       passed = by_name (λ x o. (u : Use) → o ≡ Some u → (j : ℕ) → j < u.next
-              → is_free wider [] (numbered x j) ≡ false) old new name how set
+          → is_free wider [] (numbered x j) ≡ false) old new name how set
           (λ u e j l. let none : u.next ≡ 0 = subst (λ (z : Use). z.next ≡ 0) (same_use how u e) n in
-              absurd (omega (arith, none, l)))
+          absurd (omega (arith, none, l)))
           (λ x e u f j l. less_free false (is_among wanted (numbered x j)) false (is_among wider (numbered x j))
-              (λ v. v) (λ v. joined (numbered x j) ∙ ap (λ z. z || (same (numbered x j) name || false)) v)
-              (k.passed x u f j l));
+          (λ v. v) (λ v. joined (numbered x j) ∙ ap (λ z. z || (same (numbered x j) name || false)) v)
+          (k.passed x u f j l));
       within = by_name (λ x o. (u : Use) → o ≡ Some u → u.next ≤ 0 + length wider) old new name how set
           (λ u e. let none : u.next ≡ 0 = subst (λ (z : Use). z.next ≡ 0) (same_use how u e) n in
-              omega (arith, none))
+          omega (arith, none))
           (λ x e u f. let before = k.within x u f in omega (arith, long, before));
     }
   where
@@ -193,14 +193,14 @@ known_more wanted earlier name how old new k set h n = record {
       (λ u e. subst (λ (z : Use). z.had ≡ true) (same_use how u e) h ∙ sym (among_first name earlier))
       (λ x e u f. k.had x u f ∙ sym (among_other name x earlier e));
   passed = by_name (λ x o. (u : Use) → o ≡ Some u → (j : ℕ) → j < u.next
-          → is_free wanted (name ∷ earlier) (numbered x j) ≡ false) old new name how set
+      → is_free wanted (name ∷ earlier) (numbered x j) ≡ false) old new name how set
       (λ u e j l. let none : u.next ≡ 0 = subst (λ (z : Use). z.next ≡ 0) (same_use how u e) n in
-          absurd (omega (arith, none, l)))
+      absurd (omega (arith, none, l)))
       (λ x e u f j l. free_less wanted earlier name (numbered x j) (k.passed x u f j l));
   within = by_name (λ x o. (u : Use) → o ≡ Some u → u.next ≤ suc (length earlier) + length wanted)
       old new name how set
       (λ u e. let none : u.next ≡ 0 = subst (λ (z : Use). z.next ≡ 0) (same_use how u e) n in
-          omega (arith, none))
+      omega (arith, none))
       (λ x e u f. let before = k.within x u f in omega (arith, before));
 }
 
@@ -216,7 +216,7 @@ known_passed wanted earlier name how old new k set a h n p = record {
   had = by_name (λ x o. (u : Use) → o ≡ Some u → u.had ≡ is_among earlier x) old new name how set
       (λ u e. subst (λ (z : Use). z.had ≡ true) (same_use how u e) h ∙ sym a) (λ x e. k.had x);
   passed = by_name (λ x o. (u : Use) → o ≡ Some u → (j : ℕ) → j < u.next
-          → is_free wanted earlier (numbered x j) ≡ false) old new name how set
+      → is_free wanted earlier (numbered x j) ≡ false) old new name how set
       (λ u e j l. p j (subst (λ (z : Use). j < z.next) (sym (same_use how u e)) l)) (λ x e. k.passed x);
   within = by_name (λ x o. (u : Use) → o ≡ Some u → u.next ≤ length earlier + length wanted)
       old new name how set
@@ -247,7 +247,7 @@ module _ (wanted earlier : List (List ℕ)) (name : List ℕ) (old : Uses) (how 
       ⊎_elim
       (λ earlier_one. k.passed name how at j earlier_one)
       (λ later_one. not_free (is_among earlier (numbered name j)) (is_among wanted (numbered name j))
-          (sym (k.taken (numbered name j)) ∙ first.passed j later_one l))
+      (sym (k.taken (numbered name j)) ∙ first.passed j later_one l))
       (split j how.next)
     where
       split : (j n : ℕ) → (j < n) ⊎ (n ≤ j)
@@ -260,7 +260,7 @@ module _ (wanted earlier : List (List ℕ)) (name : List ℕ) (old : Uses) (how 
       least_below_is (length earlier + length wanted)
       (λ j. is_free wanted earlier (numbered name j)) number first.within none_below
       (λ l. is_free_if (is_among earlier (numbered name number)) (is_among wanted (numbered name number))
-          (sym (k.taken (numbered name number)) ∙ first.free l))
+      (sym (k.taken (numbered name number)) ∙ first.free l))
 
   pub numbered_chosen : (mid new : Uses) (first_use last_use : Use)
       → IsSet old (numbered name number) first_use mid → first_use.had ≡ true → first_use.next ≡ 0
@@ -284,8 +284,8 @@ module _ (wanted earlier : List (List ℕ)) (name : List ℕ) (old : Uses) (how 
           ⊎_elim
           (λ below. free_less wanted earlier (numbered name number) (numbered name j) (none_below j below))
           (λ e. subst (λ z. is_free wanted (numbered name number ∷ earlier) (numbered name z) ≡ false) (sym e)
-              (ap (λ v. not v && not (is_among wanted (numbered name number)))
-                  (among_first (numbered name number) earlier)))
+          (ap (λ v. not v && not (is_among wanted (numbered name number)))
+          (among_first (numbered name number) earlier)))
           (last j number l)
         where
           last : (j n : ℕ) → j < n + 1 → (j < n) ⊎ (j ≡ n)

@@ -40,8 +40,8 @@ abbrev pub NumbersAreLeast : Type 0
 NumbersAreLeast =
     (wanted earlier : List (List ℕ)) (name : List ℕ) → length earlier + length wanted < 2 ^ 63
     → (is_free wanted earlier (numbered name (free_number wanted earlier name)) ≡ true)
-      × ((k : ℕ) → k < free_number wanted earlier name
-          → is_free wanted earlier (numbered name k) ≡ false)
+    × ((k : ℕ) → k < free_number wanted earlier name
+    → is_free wanted earlier (numbered name k) ≡ false)
 
 -- chosen names are names of a problem, where the wanted names and those of the formulas can be
 -- written

@@ -20,11 +20,9 @@ pub fn stated_problems_have_models_together()
 /// A name that is chosen with a number is a free one, and it is none with a smaller number.
 pub fn numbers_are_least()
     ensures { NumbersAreLeast }
-{
-}
+{}
 
 /// Chosen names are one for each symbol, differ and can be written, where the wanted names can be.
 pub fn chosen_names_are_names()
     ensures { ChosenNamesAreNames }
-{
-}
+{}

@@ -16,3 +16,6 @@ pub use laws::{
 };
 pub use names::Names;
 pub use problem::{WriteFault, write_problem};
+
+#[cfg(test)]
+mod tests;

@@ -50,7 +50,7 @@ fn put_entry<O: Sink>(entry: &FofFormula, names: &[Name], out: &mut O, going: bo
 }
 
 /// Sends formulas, each on a line of its own.
-fn put_entries<O: Sink>(
+pub(crate) fn put_entries<O: Sink>(
     entries: &[FofFormula],
     names: &[Name],
     out: &mut O,

@@ -27,7 +27,11 @@ pub(crate) fn use_of(uses: &BTreeMap<Vec<u8>, Use>, name: &[u8]) -> Option<Use>
 }
 
 /// Takes the name, in place of how it was taken.
-pub(crate) fn take(uses: &mut BTreeMap<Vec<u8>, Use>, name: Vec<u8>, how: Use) -> Result<(), NoMemory>
+pub(crate) fn take(
+    uses: &mut BTreeMap<Vec<u8>, Use>,
+    name: Vec<u8>,
+    how: Use,
+) -> Result<(), NoMemory>
     ensures { OnOk result (IsSet uses.old name.items how uses.new) }
 {
     uses.insert(name, how)?;
