@@ -213,8 +213,11 @@ place-more bound value zero [] long = omega arith
 place-more bound value (suc count) [] long = absurd (omega arith)
 place-more bound value zero (first ∷ values) long = absurd (omega arith)
 place-more bound value (suc count) (first ∷ values) long =
-    omega (arith, place-more bound value count values (omega arith),
-        ap (λ n. first * n) (tuple_count-more count bound))
+    omega (
+      arith,
+      place-more bound value count values (omega arith),
+      ap (λ n. first * n) (tuple_count-more count bound),
+    )
 
 pub EachBelow-more : (bound value count : ℕ) (values : List ℕ) →
     EachBelow (replicate count bound) values → value < bound →
@@ -236,7 +239,12 @@ tuple_count-grows bound count zero some =
 tuple_count-grows bound count (suc more) some =
     let next : suc (count + more) ≡ count + suc more = omega arith in
     subst (λ n. tuple_count (replicate count bound) ≤ tuple_count (replicate n bound)) next
-        (rw (tuple_count-more (count + more) bound)
-            (times_some bound (tuple_count (replicate count bound))
-                (tuple_count (replicate (count + more) bound)) some
-                (tuple_count-grows bound count more some)))
+    (rw (tuple_count-more (count + more) bound)
+    (times_some bound (tuple_count (replicate count bound))
+    (tuple_count (replicate (count + more) bound)) some
+    (tuple_count-grows bound count more some)))
+
+-- over one element there is one tuple
+pub tuple_count-one : (count : ℕ) → tuple_count (replicate count 1) ≡ 1
+tuple_count-one zero = refl
+tuple_count-one (suc count) = omega (arith, tuple_count-one count)

@@ -4,5 +4,6 @@ pub mod Library
 pub mod Sink
 pub mod MemoryLibrary
 pub mod MemorySink
+pub mod Host
 pub mod Quantifiers
 pub mod Tables

@@ -1,12 +1,11 @@
 ghost use Rattle.std.specs.Prelude.{◌≡◌, IfOk};
-ghost use Rattle.std.specs.Prelude.{MatchResult};
 
+use crate::NoMemory;
 use std::alloc::Global;
 use std::marker::Model;
 
-use crate::NoMemory;
-
-/// A `Box` that contracts see as its value.
+/// A `Box` that contracts see as the value in it, so that equal trees are equal whatever their
+/// addresses.
 #[derive(Debug, Drop)]
 pub struct Boxed<T> {
     inner: Box<T>,
@@ -17,16 +16,18 @@ impl<T> Model for Boxed<T> {
 
     ghost coded = { T.code };
 
-    ghost view = { λ b. b.inner.value };
+    ghost view = { λ boxed. boxed.inner.value };
 }
 
 impl<T> Boxed<T> {
+    /// Lends the value.
     pub fn get(&self) -> &T
         ensures { result.now ≡ self.now }
     {
         &self.inner
     }
 
+    /// The value itself.
     pub fn into_inner(self) -> T
         ensures { result ≡ self }
     {
@@ -36,8 +37,9 @@ impl<T> Boxed<T> {
 }
 
 impl<T: Drop> Boxed<T> {
+    /// Boxes the value, or drops it.
     pub fn new(alloc: Global, value: T) -> Result<Boxed<T>, NoMemory>
-        ensures { IfOk result (λ b. b ≡ value) }
+        ensures { IfOk result (λ boxed. boxed ≡ value) }
     {
         match Box::new(alloc, value) {
             Ok(inner) => Ok(Boxed { inner }),

@@ -20,3 +20,6 @@ pub use memory_library::{MemoryLibrary, StoredFile};
 pub use memory_sink::MemorySink;
 pub use name::Name;
 pub use sink::Sink;
+
+#[cfg(test)]
+mod tests;

@@ -6,3 +6,6 @@ pub mod Agreement
 pub mod Tabled
 pub mod Places
 pub mod Parts
+pub mod Depth
+pub mod Stated
+pub mod WellFormed

@@ -1,6 +1,5 @@
 -- The parts of a formula: that they are sound, that they have room, and what their truth makes.
-use Rattle.std.specs.Prelude.{ℕ, zero, suc, ◌≡◌, ◌<◌, ◌≤◌, ◌+◌, max, Bool, true, false, not, ◌&&◌, ◌||◌, List, [], ◌∷◌, ◌++◌, map, length, reverse, get_or, eqb, IsTrue, slice_get}
-use Rattle.std.specs.List.{list_all, list_any}
+use Rattle.std.specs.Prelude.{ℕ, zero, suc, ◌≡◌, ◌<◌, ◌≤◌, ◌+◌, max, Bool, true, false, not, ◌||◌, List, [], ◌∷◌, map, length, reverse, get_or, eqb, IsTrue, slice_get}
 use Rattle.std.proofs.Common.{refl, sym, ap, ◌∙◌, subst, arith}
 use Rattle.std.proofs.lemmas.Bool.{and_parts, false≢true}
 use Rattle.enc_base.specs.Quantifiers.{all_below, some_below}
@@ -14,7 +13,7 @@ use Rattle.fof_models.specs.Structures.{reading}
 use Rattle.fof_models.specs.Sound.{is_symbol, is_term, are_terms, is_formula, are_formulas, depth, greatest}
 use Rattle.fof_models.specs.Evaluation.{value_in, true_in, true_with, all_true, some_true}
 use Rattle.fof_models.proofs.Truth.{truth-true, truth-false, truth-atom, truth-equal, truth-not, truth-and, truth-or, truth-implies, truth-for_all, truth-exists}
-use Rattle.fof_models.proofs.Sound.{is_formula-atom, is_formula-equal, is_formula-not, is_formula-and, is_formula-or, is_formula-implies, is_formula-for_all, is_formula-exists, depth-not, depth-and, depth-or, depth-implies, depth-for_all, depth-exists}
+use Rattle.fof_models.proofs.Sound.{is_formula-atom, is_formula-equal, is_formula-not, is_formula-and, is_formula-or, is_formula-implies, is_formula-for_all, is_formula-exists, depth-true, depth-false, depth-atom, depth-equal, depth-not, depth-and, depth-or, depth-implies, depth-for_all, depth-exists}
 
 -- soundness
 
@@ -28,14 +27,14 @@ module _ (signature : List FofSymbol) (binders : ℕ) (p : Fof) where
       IsTrue (is_symbol (slice_get signature f) true (length terms)) × IsTrue (are_terms signature terms binders)
   atom_sound f terms is sound =
       and_parts (is_symbol (slice_get signature f) true (length terms)) (are_terms signature terms binders)
-          (sym (is_formula-atom signature f terms binders) ∙ sound_as (formula.Atom f terms) is sound)
+      (sym (is_formula-atom signature f terms binders) ∙ sound_as (formula.Atom f terms) is sound)
 
   pub equal_sound : (left right : FofTerm) → p ≡ formula.Equal left right →
       IsTrue (is_formula signature p binders) →
       IsTrue (is_term signature left binders) × IsTrue (is_term signature right binders)
   equal_sound left right is sound =
       and_parts (is_term signature left binders) (is_term signature right binders)
-          (sym (is_formula-equal signature left right binders) ∙ sound_as (formula.Equal left right) is sound)
+      (sym (is_formula-equal signature left right binders) ∙ sound_as (formula.Equal left right) is sound)
 
   pub not_sound : (a : Fof) → p ≡ formula.Not a → IsTrue (is_formula signature p binders) →
       IsTrue (is_formula signature a binders)
@@ -56,7 +55,7 @@ module _ (signature : List FofSymbol) (binders : ℕ) (p : Fof) where
       IsTrue (is_formula signature a binders) × IsTrue (is_formula signature b binders)
   implies_sound a b is sound =
       and_parts (is_formula signature a binders) (is_formula signature b binders)
-          (sym (is_formula-implies signature a b binders) ∙ sound_as (formula.Implies a b) is sound)
+      (sym (is_formula-implies signature a b binders) ∙ sound_as (formula.Implies a b) is sound)
 
   pub for_all_sound : (body : Fof) → p ≡ formula.ForAll body →
       IsTrue (is_formula signature p binders) → IsTrue (is_formula signature body (binders + 1))
@@ -68,9 +67,21 @@ module _ (signature : List FofSymbol) (binders : ℕ) (p : Fof) where
   exists_sound body is sound =
       sym (is_formula-exists signature body binders) ∙ sound_as (formula.Exists body) is sound
 
--- room
+-- depth
 
 module _ (p : Fof) where
+  pub true_depth : p ≡ formula.True → depth p ≡ 0
+  true_depth is = ap depth is ∙ depth-true
+
+  pub false_depth : p ≡ formula.False → depth p ≡ 0
+  false_depth is = ap depth is ∙ depth-false
+
+  pub atom_depth : (f : ℕ) (terms : List FofTerm) → p ≡ formula.Atom f terms → depth p ≡ 0
+  atom_depth f terms is = ap depth is ∙ depth-atom f terms
+
+  pub equal_depth : (left right : FofTerm) → p ≡ formula.Equal left right → depth p ≡ 0
+  equal_depth left right is = ap depth is ∙ depth-equal left right
+
   pub not_depth : (a : Fof) → p ≡ formula.Not a → depth p ≡ depth a
   not_depth a is = ap depth is ∙ depth-not a
 

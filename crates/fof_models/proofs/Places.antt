@@ -1,16 +1,15 @@
 -- The place of a tuple, found from the left, and what stands there.
-use Rattle.std.specs.Prelude.{ℕ, zero, suc, ◌≡◌, ◌<◌, ◌≤◌, ◌+◌, ◌*◌, ◌-◌, Bool, true, false, List, [], ◌∷◌, ◌++◌, map, length, replicate, reverse, take, get_or, cond, IsTrue, slice_index, slice_get, Some, ◌&&◌}
-use Rattle.std.specs.List.{list_all}
+use Rattle.std.specs.Prelude.{ℕ, zero, suc, ◌≡◌, ◌<◌, ◌≤◌, ◌+◌, ◌*◌, ◌-◌, Bool, false, List, [], ◌∷◌, ◌++◌, map, length, replicate, reverse, take, get_or, cond, IsTrue, slice_index, slice_get, Some}
 use Rattle.std.proofs.Common.{refl, sym, ap, ◌∙◌, subst, arith}
 use Rattle.std.proofs.lemmas.Bool.{and_parts, ltb-true}
-use Rattle.std.proofs.lemmas.List.{take_more, map-append, get_or-reverse, length-map}
+use Rattle.std.proofs.lemmas.List.{take_more, map-append, get_or-reverse}
 use Rattle.enc_base.specs.Tables.{tuple_count, place, EachBelow}
-use Rattle.enc_base.proofs.Tables.{place_within, EachBelow-length, tuple_count-more, place-more, EachBelow-more, tuple_count-grows}
+use Rattle.enc_base.proofs.Tables.{place_within, EachBelow-length, place-more, EachBelow-more, tuple_count-grows}
 use Rattle.fof_models.specs.declared.problem.FofSymbol.{FofSymbol}
 use Rattle.fof_models.specs.declared.formula.FofTerm.{FofTerm}
 use Rattle.fof_models.specs.declared.formula.FofTerm.TheVariants as term
 use Rattle.fof_models.specs.declared.structure.Structure.{Structure}
-use Rattle.fof_models.specs.Structures.{table_of, reading, values_below, IsWellFormed}
+use Rattle.fof_models.specs.Structures.{table_of, reading, IsWellFormed}
 use Rattle.fof_models.specs.Truth.{value}
 use Rattle.fof_models.specs.Sound.{is_symbol, is_term, are_terms}
 use Rattle.fof_models.specs.Evaluation.{value_in, IsPlaced}
@@ -48,8 +47,8 @@ placed_fits bound value count at arity values placed within more =
     let next = IsPlaced-more bound value count at values placed within in
     let whole : count + 1 + (arity - (count + 1)) ≡ arity = omega arith in
     let grows : tuple_count (replicate (count + 1) bound) ≤ tuple_count (replicate arity bound) =
-        subst (λ n. tuple_count (replicate (count + 1) bound) ≤ tuple_count (replicate n bound)) whole
-            (tuple_count-grows bound (count + 1) (arity - (count + 1)) (omega arith)) in
+    subst (λ n. tuple_count (replicate (count + 1) bound) ≤ tuple_count (replicate n bound)) whole
+    (tuple_count-grows bound (count + 1) (arity - (count + 1)) (omega arith)) in
     omega (arith, placed_within bound (count + 1) (at * bound + value) (values ++ value ∷ []) next, grows)
 
 -- one term more
@@ -59,11 +58,11 @@ pub placed_step : (bound i at v : ℕ) (f : FofTerm → ℕ) (terms : List FofTe
     IsPlaced bound (map f (take (i + 1) terms)) (i + 1) (at * bound + v)
 placed_step bound i at v f terms t inside is placed same within =
     let more : map f (take (i + 1) terms) ≡ map f (take i terms) ++ v ∷ [] =
-        ap (map f) (take_more terms i t inside)
-        ∙ map-append f (take i terms) (get_or terms i t ∷ [])
-        ∙ ap (λ y. map f (take i terms) ++ y ∷ []) (ap f (sym is) ∙ sym same) in
+    ap (map f) (take_more terms i t inside)
+    ∙ map-append f (take i terms) (get_or terms i t ∷ [])
+    ∙ ap (λ y. map f (take i terms) ++ y ∷ []) (ap f (sym is) ∙ sym same) in
     subst (λ vs. IsPlaced bound vs (i + 1) (at * bound + v)) (sym more)
-        (IsPlaced-more bound v i at (map f (take i terms)) placed within)
+    (IsPlaced-more bound v i at (map f (take i terms)) placed within)
 
 -- the symbol's table
 
@@ -75,23 +74,23 @@ slice_get_within (y ∷ ys) (suc i) x at = omega (arith, slice_get_within ys i x
 module _ (signature : List FofSymbol) (s : Structure) (f : ℕ) (predicate : Bool) (count : ℕ)
     (well_formed : IsWellFormed signature s)
     (symbol : IsTrue (is_symbol (slice_get signature f) predicate count))
-    where
-  pub symbol_within : f < length s.tables
-  symbol_within =
-      let found = is_symbol-says (slice_get signature f) predicate count symbol in
-      omega (arith, well_formed.count, slice_get_within signature f found.0 found.1)
+  where
+    pub symbol_within : f < length s.tables
+    symbol_within =
+        let found = is_symbol-says (slice_get signature f) predicate count symbol in
+        omega (arith, well_formed.count, slice_get_within signature f found.0 found.1)
 
-  pub table_length : length (table_of s f) ≡ tuple_count (replicate count s.size)
-  table_length =
-      let found = is_symbol-says (slice_get signature f) predicate count symbol in
-      well_formed.lengths f found.0 found.1 ∙ ap (λ n. tuple_count (replicate n s.size)) found.3
+    pub table_length : length (table_of s f) ≡ tuple_count (replicate count s.size)
+    table_length =
+        let found = is_symbol-says (slice_get signature f) predicate count symbol in
+        (well_formed.tables f found.0 found.1).count ∙ ap (λ n. tuple_count (replicate n s.size)) found.3
 
-  pub table_entry : (i : ℕ) → i < length (table_of s f) →
-      slice_index (table_of s f) i < cond predicate 2 s.size
-  table_entry i within =
-      let found = is_symbol-says (slice_get signature f) predicate count symbol in
-      subst (λ b. slice_index (table_of s f) i < cond b 2 s.size) found.2
-          (well_formed.entries f found.0 i found.1 within)
+    pub table_entry : (i : ℕ) → i < length (table_of s f) →
+        slice_index (table_of s f) i < cond predicate 2 s.size
+    table_entry i within =
+        let found = is_symbol-says (slice_get signature f) predicate count symbol in
+        subst (λ b. slice_index (table_of s f) i < cond b 2 s.size) found.2
+        ((well_formed.tables f found.0 found.1).below i within)
 
 -- the entry at the place of a tuple
 pub entry_is : (s : Structure) (f at count : ℕ) (values table : List ℕ) → table ≡ table_of s f →
@@ -100,7 +99,7 @@ pub entry_is : (s : Structure) (f at count : ℕ) (values table : List ℕ) → 
 entry_is s f at count values table same long placed =
     ap (λ t. slice_index t at) same
     ∙ ap (slice_index (table_of s f))
-        (placed.place_is ∙ ap (λ n. place (replicate n s.size) values) long)
+    (placed.place_is ∙ ap (λ n. place (replicate n s.size) values) long)
 
 -- the parts of a term
 
@@ -109,13 +108,13 @@ pub apply_sound : (signature : List FofSymbol) (t : FofTerm) (f : ℕ) (terms : 
     IsTrue (is_symbol (slice_get signature f) false (length terms)) × IsTrue (are_terms signature terms binders)
 apply_sound signature t f terms binders is sound =
     and_parts (is_symbol (slice_get signature f) false (length terms)) (are_terms signature terms binders)
-        (sym (is_term-apply signature f terms binders) ∙ ap (λ x. is_term signature x binders) (sym is) ∙ sound)
+    (sym (is_term-apply signature f terms binders) ∙ ap (λ x. is_term signature x binders) (sym is) ∙ sound)
 
 pub variable_sound : (signature : List FofSymbol) (t : FofTerm) (i binders : ℕ) → t ≡ term.Var i →
     IsTrue (is_term signature t binders) → i < binders
 variable_sound signature t i binders is sound =
     ltb-true i binders
-        (sym (is_term-variable signature i binders) ∙ ap (λ x. is_term signature x binders) (sym is) ∙ sound)
+    (sym (is_term-variable signature i binders) ∙ ap (λ x. is_term signature x binders) (sym is) ∙ sound)
 
 pub variable_value : (s : Structure) (t : FofTerm) (i v : ℕ) (items : List ℕ) → t ≡ term.Var i →
     i < length items → v ≡ slice_index items (length items - (i + 1)) → v ≡ value_in s items t

@@ -7,7 +7,7 @@ use Rattle.enc_base.proofs.Tables.{place_within, length-table, table-at, table-e
 use Rattle.fof_models.specs.declared.problem.FofSymbol.{FofSymbol}
 use Rattle.fof_models.specs.declared.problem.FofProblem.{FofProblem}
 use Rattle.fof_models.specs.declared.structure.Structure.{Structure}
-use Rattle.fof_models.specs.Structures.{Untyped, table_of, reading, values_below, AreElements, IsStructure, IsWellFormed}
+use Rattle.fof_models.specs.Structures.{Untyped, table_of, reading, values_below, AreElements, IsStructure, IsTable, IsWellFormed}
 use Rattle.fof_models.specs.declared.problem.FofFormula.{FofFormula}
 use Rattle.fof_models.specs.Models.{IsModel, AreModel, AreSatisfied}
 use Rattle.fof_models.specs.Sound.{IsSound, IsSoundFormula}
@@ -22,11 +22,11 @@ IsStructure-reading signature s well_formed = record {
   values = λ f symbol elements at below.
       let count : symbol.arity ≡ length elements = EachBelow-length symbol.arity s.size elements below in
       let there : place (replicate symbol.arity s.size) elements < length (table_of s f) =
-      rw (well_formed.lengths f symbol at) (place_within (replicate symbol.arity s.size) elements below) in
+      rw ((well_formed.tables f symbol at).count) (place_within (replicate symbol.arity s.size) elements below) in
       subst
       (λ n. slice_index (table_of s f) (place (replicate n s.size) elements) < values_below symbol s.size)
       count
-      (well_formed.entries f symbol (place (replicate symbol.arity s.size) elements) at there);
+      ((well_formed.tables f symbol at).below (place (replicate symbol.arity s.size) elements) there);
 }
 
 -- the table of the f-th symbol
@@ -59,15 +59,14 @@ pub IsWellFormed-tabled : (signature : List FofSymbol) (s : Untyped) → IsStruc
 IsWellFormed-tabled signature s fits = record {
   inhabited = fits.inhabited;
   count = length-symbol_tables s signature 0;
-  lengths = λ f symbol at.
-      ap length (table_is signature s f symbol at)
-      ∙ length-table (replicate symbol.arity s.size) (s.symbol_at f);
-  entries = λ f symbol i at within.
-      subst (λ t. slice_index t i < values_below symbol s.size)
-      (sym (table_is signature s f symbol at))
-      (table-each (replicate symbol.arity s.size) (s.symbol_at f) (λ v. v < values_below symbol s.size)
-      (λ elements below. fits.values f symbol elements at below)
-      i (subst (λ t. i < length t) (table_is signature s f symbol at) within));
+  tables = λ f symbol at.
+      subst (IsTable symbol s.size) (sym (table_is signature s f symbol at))
+      (record {
+        count = length-table (replicate symbol.arity s.size) (s.symbol_at f);
+        below = table-each (replicate symbol.arity s.size) (s.symbol_at f)
+            (λ v. v < values_below symbol s.size)
+            (λ elements below. fits.values f symbol elements at below);
+      });
 }
 
 pub symbol_at-tabled : (signature : List FofSymbol) (s : Untyped) (f : ℕ) (symbol : FofSymbol)

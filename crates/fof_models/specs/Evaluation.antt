@@ -1,16 +1,14 @@
 -- Words of the evaluator's contracts: an assignment as an environment holds it, the last element
 -- being the nearest binder's.
-use Rattle.std.specs.Prelude.{ℕ, ◌+◌, ◌≤◌, ◌≡◌, Bool, List, ◌∷◌, map, length, replicate, reverse, IsTrue}
+use Rattle.std.specs.Prelude.{ℕ, ◌≡◌, Bool, List, ◌∷◌, replicate, reverse}
 use Rattle.std.specs.List.{list_all, list_any}
 use Rattle.enc_base.specs.Tables.{EachBelow, place}
 use Rattle.fof_models.specs.declared.formula.FofTerm.{FofTerm}
 use Rattle.fof_models.specs.declared.formula.Fof.{Fof}
 use Rattle.fof_models.specs.declared.problem.FofSymbol.{FofSymbol}
 use Rattle.fof_models.specs.declared.structure.Structure.{Structure}
-use Rattle.fof_models.specs.Room.{Room}
-use Rattle.fof_models.specs.Structures.{Untyped, reading, AreElements, IsWellFormed}
+use Rattle.fof_models.specs.Structures.{reading, AreElements, IsWellFormed}
 use Rattle.fof_models.specs.Truth.{value, truth}
-use Rattle.fof_models.specs.Sound.{is_term, are_terms, is_formula, depth, greatest}
 
 -- the value of a term under an environment's items
 abbrev pub value_in : Structure → List ℕ → FofTerm → ℕ

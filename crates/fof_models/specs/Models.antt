@@ -1,5 +1,5 @@
 -- Models of untyped problems.
-use Rattle.std.specs.Prelude.{List, [], IsTrue}
+use Rattle.std.specs.Prelude.{ℕ, ◌<◌, ◌≡◌, false, List, [], length, take, slice_get, Some, IsTrue}
 use Rattle.std.specs.List.{AllByRecursion}
 use Rattle.fof_models.specs.declared.problem.FofFormula.{FofFormula}
 use Rattle.fof_models.specs.declared.problem.FofProblem.{FofProblem}
@@ -14,6 +14,13 @@ IsSatisfied s formula = IsTrue (truth s formula.body [])
 -- Each formula is true, in both roles.
 abbrev pub AreSatisfied : Untyped → List FofFormula → Type 0
 AreSatisfied s formulas = AllByRecursion (IsSatisfied s) formulas
+
+-- the formula at an index isn't true, and all before it are
+pub record IsFirstFalse (s : Untyped) (formulas : List FofFormula) (index : ℕ) : Type 0 where
+  pub within : index < length formulas
+  pub fails : (formula : FofFormula) → slice_get formulas index ≡ Some formula →
+      truth s formula.body [] ≡ false
+  pub earlier : AreSatisfied s (take index formulas)
 
 -- functions that are a model of a problem
 pub record IsModel (problem : FofProblem) (s : Untyped) : Type 0 where

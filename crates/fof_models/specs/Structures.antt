@@ -39,12 +39,14 @@ pub record IsStructure (signature : List FofSymbol) (s : Untyped) : Type 0 where
       EachBelow (replicate symbol.arity s.size) elements →
       s.symbol_at f elements < values_below symbol s.size
 
--- The tables fit the signature: the domain has an element, each symbol has a table, a table has an
--- entry for each tuple of elements, and each entry is in its range.
+-- a table has an entry for each tuple of elements, and each entry is in its range
+pub record IsTable (symbol : FofSymbol) (size : ℕ) (entries : List ℕ) : Type 0 where
+  pub count : length entries ≡ tuple_count (replicate symbol.arity size)
+  pub below : (i : ℕ) → i < length entries → slice_index entries i < values_below symbol size
+
+-- The tables fit the signature: the domain has an element, and each symbol has a table of its own.
 pub record IsWellFormed (signature : List FofSymbol) (s : Structure) : Type 0 where
   pub inhabited : 0 < s.size
   pub count : length s.tables ≡ length signature
-  pub lengths : (f : ℕ) (symbol : FofSymbol) → slice_get signature f ≡ Some symbol →
-      length (table_of s f) ≡ tuple_count (replicate symbol.arity s.size)
-  pub entries : (f : ℕ) (symbol : FofSymbol) (i : ℕ) → slice_get signature f ≡ Some symbol →
-      i < length (table_of s f) → slice_index (table_of s f) i < values_below symbol s.size
+  pub tables : (f : ℕ) (symbol : FofSymbol) → slice_get signature f ≡ Some symbol →
+      IsTable symbol s.size (table_of s f)

@@ -1,4 +1,5 @@
-ghost use Rattle.std.specs.Prelude.{◌≡◌, ◌↔◌, IsTrue, IfOk};
+ghost use Rattle.std.specs.Prelude.{◌≡◌, ◌↔◌, ◌<◌, ◌^◌, IsTrue, IfOk, map, max, sum};
+ghost use Rattle.fof_models.specs.Sound.{binder_count, depth, greatest};
 
 use enc_base::{Boxed, List, NoMemory};
 use std::alloc::Global;
@@ -21,7 +22,10 @@ impl FofTerm {
     {
         match self {
             FofTerm::Var(i) => Ok(FofTerm::Var(*i)),
-            FofTerm::Apply(f, terms) => Ok(FofTerm::Apply(*f, copy_terms(alloc, terms.as_slice())?)),
+            FofTerm::Apply(f, terms) => Ok(FofTerm::Apply(
+                *f,
+                copy_terms(alloc, terms.as_slice())?,
+            )),
         }
     }
 
@@ -130,6 +134,26 @@ impl Fof {
             _ => false,
         }
     }
+
+    // the greatest number of nested binders
+    #[cycle(nested)]
+    pub(crate) fn nested(&self) -> u32
+        requires bound { binder_count self.now < 2 ^ 30 }
+        ensures exact { result ≡ depth self.now }
+    {
+        match self {
+            Fof::True => 0,
+            Fof::False => 0,
+            Fof::Atom(_, _) => 0,
+            Fof::Equal(_, _) => 0,
+            Fof::Not(a) => a.get().nested(),
+            Fof::And(parts) => most_nested(parts.as_slice()),
+            Fof::Or(parts) => most_nested(parts.as_slice()),
+            Fof::Implies(a, b) => greater(a.get().nested(), b.get().nested()),
+            Fof::ForAll(body) => body.get().nested() + 1,
+            Fof::Exists(body) => body.get().nested() + 1,
+        }
+    }
 }
 
 // an equal formula in a box of its own
@@ -166,4 +190,24 @@ pub fn same_formulas(formulas: &[Fof], others: &[Fof]) -> bool
         }
     }
     true
+}
+
+// the greatest number of nested binders in formulas
+#[cycle(nested)]
+fn most_nested(parts: &[Fof]) -> u32
+    requires bound { sum (map binder_count parts.now) < 2 ^ 30 }
+    ensures exact { result ≡ greatest (map depth parts.now) }
+{
+    let mut most = 0;
+    for part in parts {
+        most = greater(most, part.nested());
+    }
+    most
+}
+
+// the greater of two numbers
+pub(crate) fn greater(a: u32, b: u32) -> u32
+    ensures { result ≡ max a b }
+{
+    if a < b { b } else { a }
 }

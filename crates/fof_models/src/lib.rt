@@ -2,12 +2,14 @@
 #![tactic(auto)]
 
 mod env;
+mod first_false;
 mod formula;
 mod holds;
 mod laws;
 mod problem;
 mod structure;
 mod value;
+mod well_formed;
 
 pub use env::FofEnv;
 pub use formula::{Fof, FofTerm, copy_formulas, copy_terms, same_formulas, same_terms};
@@ -15,6 +17,8 @@ pub use laws::{
     entries_stand_at_places, existential_is_true_of_some, models_are_tables, tables_are_functions,
     universal_is_true_of_each,
 };
-pub use problem::{FofFormula, FofProblem, FofRole, FofSymbol};
-pub use problem::{copy_stated, copy_symbols, same_stated, same_symbols};
+pub use problem::{
+    FofFormula, FofProblem, FofRole, FofSymbol, copy_stated, copy_symbols, same_stated,
+    same_symbols,
+};
 pub use structure::Structure;

@@ -1,6 +1,7 @@
 ghost use Rattle.std.specs.Prelude.{◌≡◌, ◌↔◌, IsTrue, IfOk};
+ghost use Rattle.fof_models.specs.Sound.{IsSound, most_terms};
 
-use crate::formula::Fof;
+use crate::formula::{Fof, greater};
 use enc_base::{List, Name, NoMemory};
 use std::alloc::Global;
 
@@ -168,5 +169,17 @@ impl FofProblem {
     {
         same_symbols(self.signature.as_slice(), other.signature.as_slice())
             && same_stated(self.formulas.as_slice(), other.formulas.as_slice())
+    }
+
+    /// The greatest number of nested binders in a formula of the problem. It takes no memory.
+    pub fn most_terms(&self) -> u32
+        requires sound { IsSound self.now }
+        ensures exact { result ≡ most_terms self.now }
+    {
+        let mut most = 0;
+        for formula in self.formulas.as_slice() {
+            most = greater(most, formula.body.nested());
+        }
+        most
     }
 }

@@ -9,3 +9,4 @@ pub mod Substitution
 pub mod Sorts
 pub mod Counts
 pub mod Sound
+pub mod Laws

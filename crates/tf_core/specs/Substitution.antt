@@ -1,5 +1,6 @@
 -- Terms with their variables raised, and terms and formulas with their types replaced.
-use Rattle.std.specs.Prelude.{ℕ, ◌+◌, List, map, cond, ltb}
+use Rattle.std.specs.Prelude.{Bool, ℕ, ◌+◌, List, map, cond, ltb}
+use Rattle.std.specs.List.{list_all}
 use Rattle.tf_core.specs.declared.ty.Ty.{Ty}
 use Rattle.tf_core.specs.declared.term.Term.{Term}
 use Rattle.tf_core.specs.declared.term.Term.TheVariants as term
@@ -16,6 +17,15 @@ use Rattle.tf_core.specs.Types.{instantiate}
 -- a variable raised where it stands at or above a bound
 abbrev pub raised : ℕ → ℕ → ℕ → ℕ
 raised by from i = cond (ltb i from) i (i + by)
+
+-- one layer of the test that each variable is below a bound
+abbrev pub variables_below_step : ℕ → Term-F Bool → Bool
+variables_below_step bound (term_layer.Var i) = ltb i bound
+variables_below_step bound (term_layer.Apply f types terms) = list_all (λ t. t) terms
+
+-- whether each variable of a term is below a bound
+unfoldable pub variables_below : ℕ → Term → Bool
+variables_below bound = fold-Term Bool (variables_below_step bound)
 
 -- one layer of a shifted term
 abbrev pub shift_step : ℕ → ℕ → Term-F Term → Term

@@ -1,7 +1,8 @@
-ghost use Rattle.std.specs.Prelude.{◌≡◌, ◌↔◌, IsTrue, IfOk};
+ghost use Rattle.std.specs.Prelude.{◌≡◌, ◌↔◌, IsTrue, IfOk, map};
+ghost use Rattle.tf_core.specs.Substitution.{substitute_types};
 
-use crate::term::{Term, copy_terms, same_terms};
-use crate::ty::{Ty, copy_types, same_types};
+use crate::term::{Term, copy_terms, same_terms, substituted_terms};
+use crate::ty::{Ty, copy_types, instances_of, same_types};
 use enc_base::{Boxed, List, NoMemory};
 use std::alloc::Global;
 
@@ -73,6 +74,62 @@ impl Nnf {
             _ => false,
         }
     }
+
+    /// The formula with its type variables replaced throughout, the i-th by the i-th of the types.
+    #[cycle(substitute_nnf)]
+    pub fn substitute_types(&self, alloc: Global, types: &[Ty]) -> Result<Nnf, NoMemory>
+        ensures exact { IfOk result (λ made. made ≡ substitute_types types.now self.now) }
+    {
+        match self {
+            Nnf::True => Ok(Nnf::True),
+            Nnf::False => Ok(Nnf::False),
+            Nnf::Atom(positive, f, arguments, terms) => {
+                let arguments = instances_of(alloc, arguments.as_slice(), types)?;
+                let terms = substituted_terms(alloc, terms.as_slice(), types)?;
+                Ok(Nnf::Atom(*positive, *f, arguments, terms))
+            }
+            Nnf::Equation(positive, ty, left, right) => {
+                let ty = ty.instantiate(alloc, types)?;
+                let left = left.substitute_types(alloc, types)?;
+                let right = right.substitute_types(alloc, types)?;
+                Ok(Nnf::Equation(*positive, ty, left, right))
+            }
+            Nnf::And(parts) => Ok(Nnf::And(substituted_parts(alloc, parts.as_slice(), types)?)),
+            Nnf::Or(parts) => Ok(Nnf::Or(substituted_parts(alloc, parts.as_slice(), types)?)),
+            Nnf::ForAll(ty, body) => {
+                let ty = ty.instantiate(alloc, types)?;
+                Ok(Nnf::ForAll(ty, substituted_boxed(alloc, body, types)?))
+            }
+            Nnf::Exists(ty, body) => {
+                let ty = ty.instantiate(alloc, types)?;
+                Ok(Nnf::Exists(ty, substituted_boxed(alloc, body, types)?))
+            }
+        }
+    }
+}
+
+// a formula with its type variables replaced, in a box of its own
+#[cycle(substitute_nnf)]
+fn substituted_boxed(
+    alloc: Global,
+    formula: &Boxed<Nnf>,
+    types: &[Ty],
+) -> Result<Boxed<Nnf>, NoMemory>
+    ensures { IfOk result (λ made. made ≡ substitute_types types.now formula.now) }
+{
+    Boxed::new(alloc, formula.get().substitute_types(alloc, types)?)
+}
+
+// each of the formulas with its type variables replaced
+#[cycle(substitute_nnf)]
+fn substituted_parts(alloc: Global, parts: &[Nnf], types: &[Ty]) -> Result<List<Nnf>, NoMemory>
+    ensures { IfOk result (λ made. made ≡ map (substitute_types types.now) parts.now) }
+{
+    let mut made = List::new(alloc);
+    for part in parts {
+        made.push(part.substitute_types(alloc, types)?)?;
+    }
+    Ok(made)
 }
 
 // an equal formula in a box of its own

@@ -1,6 +1,8 @@
-ghost use Rattle.std.specs.Prelude.{◌≡◌, ◌↔◌, IsTrue, IfOk};
+ghost use Rattle.std.specs.Prelude.{◌≡◌, ◌↔◌, ◌<◌, ◌-◌, ◌^◌, IsTrue, IfOk, map};
+ghost use Rattle.std.specs.List.{list_all};
+ghost use Rattle.tf_core.specs.Substitution.{raised, variables_below, shift, substitute_term};
 
-use crate::ty::{Ty, copy_types, same_types};
+use crate::ty::{Ty, copy_types, instances_of, same_types};
 use enc_base::{List, NoMemory};
 use std::alloc::Global;
 
@@ -45,6 +47,75 @@ impl Term {
             _ => false,
         }
     }
+
+    /// The term with each variable at or above `from` raised by `by`: what it is behind so many new
+    /// binders. No raised variable passes 2^32 - 1.
+    #[cycle(shift)]
+    pub fn shift(&self, alloc: Global, by: u32, from: u32) -> Result<Term, NoMemory>
+        requires bound { IsTrue (variables_below (2 ^ 32 - by) self.now) }
+        ensures exact { IfOk result (λ term. term ≡ shift by from self.now) }
+    {
+        match self {
+            Term::Var(i) => Ok(Term::Var(raise(*i, by, from))),
+            Term::Apply(f, types, terms) => {
+                let types = copy_types(alloc, types.as_slice())?;
+                let terms = shifted(alloc, terms.as_slice(), by, from)?;
+                Ok(Term::Apply(*f, types, terms))
+            }
+        }
+    }
+
+    /// The term with its type variables replaced.
+    #[cycle(substitute)]
+    pub fn substitute_types(&self, alloc: Global, types: &[Ty]) -> Result<Term, NoMemory>
+        ensures exact { IfOk result (λ term. term ≡ substitute_term types.now self.now) }
+    {
+        match self {
+            Term::Var(i) => Ok(Term::Var(*i)),
+            Term::Apply(f, arguments, terms) => {
+                let arguments = instances_of(alloc, arguments.as_slice(), types)?;
+                let terms = substituted_terms(alloc, terms.as_slice(), types)?;
+                Ok(Term::Apply(*f, arguments, terms))
+            }
+        }
+    }
+}
+
+// a variable raised where it stands at or above a bound
+fn raise(i: u32, by: u32, from: u32) -> u32
+    requires { i < 2 ^ 32 - by }
+    ensures { result ≡ raised by from i }
+{
+    if i < from { i } else { i + by }
+}
+
+// each of the terms shifted
+#[cycle(shift)]
+fn shifted(alloc: Global, terms: &[Term], by: u32, from: u32) -> Result<List<Term>, NoMemory>
+    requires { IsTrue (list_all (variables_below (2 ^ 32 - by)) terms.now) }
+    ensures { IfOk result (λ made. made ≡ map (shift by from) terms.now) }
+{
+    let mut made = List::new(alloc);
+    for term in terms {
+        made.push(term.shift(alloc, by, from)?)?;
+    }
+    Ok(made)
+}
+
+/// Each of the terms with its type variables replaced.
+#[cycle(substitute)]
+pub fn substituted_terms(
+    alloc: Global,
+    terms: &[Term],
+    types: &[Ty],
+) -> Result<List<Term>, NoMemory>
+    ensures { IfOk result (λ made. made ≡ map (substitute_term types.now) terms.now) }
+{
+    let mut made = List::new(alloc);
+    for term in terms {
+        made.push(term.substitute_types(alloc, types)?)?;
+    }
+    Ok(made)
 }
 
 /// Equal terms.

@@ -1,4 +1,6 @@
-ghost use Rattle.std.specs.Prelude.{◌≡◌, ◌↔◌, IsTrue, IfOk};
+ghost use Rattle.std.specs.Prelude.{◌≡◌, ◌↔◌, IsTrue, IfOk, map, get_or};
+ghost use Rattle.tf_core.specs.declared.ty.Ty.TheVariants.{Var};
+ghost use Rattle.tf_core.specs.Types.{instantiate};
 
 use enc_base::{List, NoMemory};
 use std::alloc::Global;
@@ -38,6 +40,43 @@ impl Ty {
             _ => false,
         }
     }
+
+    /// The type with its variables replaced, the i-th by the i-th of the types. A variable beyond
+    /// them stays as it is.
+    #[cycle(instantiate)]
+    pub fn instantiate(&self, alloc: Global, types: &[Ty]) -> Result<Ty, NoMemory>
+        ensures exact { IfOk result (λ ty. ty ≡ instantiate types.now self.now) }
+    {
+        match self {
+            Ty::Var(i) => instance_of(alloc, *i, types),
+            Ty::Apply(c, arguments) => {
+                let arguments = instances_of(alloc, arguments.as_slice(), types)?;
+                Ok(Ty::Apply(*c, arguments))
+            }
+        }
+    }
+}
+
+// what a type variable is replaced by
+fn instance_of(alloc: Global, i: u32, types: &[Ty]) -> Result<Ty, NoMemory>
+    ensures { IfOk result (λ ty. ty ≡ get_or types.now i (Var i)) }
+{
+    match types.get(i as usize) {
+        Some(ty) => ty.copy(alloc),
+        None => Ok(Ty::Var(i)),
+    }
+}
+
+/// Each of the types with its variables replaced.
+#[cycle(instantiate)]
+pub fn instances_of(alloc: Global, arguments: &[Ty], types: &[Ty]) -> Result<List<Ty>, NoMemory>
+    ensures { IfOk result (λ instances. instances ≡ map (instantiate types.now) arguments.now) }
+{
+    let mut instances = List::new(alloc);
+    for argument in arguments {
+        instances.push(argument.instantiate(alloc, types)?)?;
+    }
+    Ok(instances)
 }
 
 /// Equal types.

@@ -1,5 +1,7 @@
 -- A block comment is skipped up to its first end.
-use Rattle.std.proofs.Common.{◌≡◌, ℕ, ◌+◌, ◌⊎◌, inl, inr, Bool, true, false, ◌||◌, ◌&&◌, ◌==◌, if◌then◌else◌, List, [], ◌∷◌, ◌++◌, length, drop, slice_index, refl, sym, ◌∙◌, ap, subst, arith, append_assoc, length-append}
+use Rattle.std.proofs.Common.{◌≡◌, ℕ, ◌+◌, ◌⊎◌, inl, inr, Bool, true, false, ◌||◌, ◌&&◌, ◌==◌}
+use Rattle.std.proofs.Common.{if◌then◌else◌, List, [], ◌∷◌, ◌++◌, length, drop, slice_index, refl}
+use Rattle.std.proofs.Common.{sym, ◌∙◌, ap, subst, arith, append_assoc, length-append}
 use Rattle.std.proofs.lemmas.Bool.{eqb-true, and_parts}
 use Rattle.tptp_words.specs.declared.piece.Piece.{Piece}
 use Rattle.tptp_words.specs.declared.piece.Piece.TheVariants as piece
@@ -65,7 +67,8 @@ or-false-left v w e = ap (λ z. z || w) e
 block_ends : (text : List ℕ) (n : ℕ)
     → ((block_from n text ≡ piece.Open) × (has_close text ≡ false)) ⊎ Closed text n
 block_ends [] n = inl (refl, refl)
-block_ends (b ∷ text) n = go (b == star && slice_index text 0 == slash) refl (block_ends text (n + 1))
+block_ends (b ∷ text) n =
+    go (b == star && slice_index text 0 == slash) refl (block_ends text (n + 1))
   where
     step : Bool → Piece
     step v = if v then piece.Gap (n + 2) else block_from (n + 1) text

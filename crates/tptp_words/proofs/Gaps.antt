@@ -1,8 +1,11 @@
 -- Gaps: one after another, and what they leave.
-use Rattle.std.proofs.Common.{◌≡◌, ℕ, ◌<◌, Bool, true, false, ◌||◌, ◌&&◌, ◌==◌, List, [], ◌∷◌, ◌++◌, length, slice_index, refl, sym, ◌∙◌, ap, arith, append_assoc, append-nil}
+use Rattle.std.proofs.Common.{◌≡◌, ℕ, ◌<◌, Bool, true, false, ◌||◌, ◌&&◌, ◌==◌, List, [], ◌∷◌, ◌++◌}
+use Rattle.std.proofs.Common.{length, slice_index, refl, sym, ◌∙◌, ap, arith, append_assoc}
+use Rattle.std.proofs.Common.{append-nil}
 use Rattle.std.specs.Prelude.{Option}
 use Rattle.tptp_words.specs.declared.word.WordError.{WordError}
-use Rattle.tptp_words.specs.Text.{not_feed, AllPass, percent, slash, star, line_feed, begins_gap, Placed, Gap, none, blank, comment, last_comment, block, IsText}
+use Rattle.tptp_words.specs.Text.{not_feed, AllPass, percent, slash, star, line_feed, begins_gap}
+use Rattle.tptp_words.specs.Text.{Placed, Gap, none, blank, comment, last_comment, block, IsText}
 
 pub gap_append : {text middle rest : List ℕ} → Gap text middle → Gap middle rest → Gap text rest
 gap_append none k = k
@@ -10,7 +13,8 @@ gap_append (blank e g) k = blank e (gap_append g k)
 gap_append (comment body h g) k = comment body h (gap_append g k)
 gap_append (last_comment body h) k = ends body h k
   where
-    ends : (body : List ℕ) → AllPass not_feed body → {rest : List ℕ} → Gap [] rest → Gap (percent ∷ body) rest
+    ends : (body : List ℕ) → AllPass not_feed body → {rest : List ℕ} → Gap [] rest
+        → Gap (percent ∷ body) rest
     ends body h none = last_comment body h
 gap_append (block body h g) k = block body h (gap_append g k)
 

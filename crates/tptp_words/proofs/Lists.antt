@@ -1,12 +1,15 @@
 -- The words that are found are those of the text.
-use Rattle.std.proofs.Common.{◌≡◌, ℕ, zero, suc, ◌+◌, ◌≤◌, List, [], ◌∷◌, ◌++◌, length, take, drop, refl, sym, ◌∙◌, ap, subst, arith, append_assoc, append-nil, length-append, length-drop}
+use Rattle.std.proofs.Common.{◌≡◌, ℕ, zero, suc, ◌+◌, ◌≤◌, List, [], ◌∷◌, ◌++◌, length, take, drop}
+use Rattle.std.proofs.Common.{refl, sym, ◌∙◌, ap, subst, arith, append_assoc, append-nil}
+use Rattle.std.proofs.Common.{length-append, length-drop}
 use Rattle.std.specs.List.{prefix_len}
 use Rattle.std.proofs.Math.Seq.{take-append_seam}
 use Rattle.std.proofs.lemmas.List.{take-append-drop}
 use Rattle.tptp_words.specs.declared.word.WordKind.{WordKind}
 use Rattle.tptp_words.specs.declared.piece.Piece.{Piece}
 use Rattle.tptp_words.specs.declared.piece.Piece.TheVariants as piece
-use Rattle.tptp_words.specs.Text.{Spells, IsLongest, not_feed, percent, slash, star, line_feed, AllPass, Gap, none, blank, comment, last_comment, block, IsText}
+use Rattle.tptp_words.specs.Text.{Spells, IsLongest, not_feed, percent, slash, star, line_feed}
+use Rattle.tptp_words.specs.Text.{AllPass, Gap, none, blank, comment, last_comment, block, IsText}
 use Rattle.tptp_words.specs.Scanning.{piece_at, Left, turn, left_from}
 use Rattle.tptp_words.proofs.Passes.{Cut, drop-front, drop_past, prefix_len-over}
 use Rattle.tptp_words.proofs.Says.{Says}
@@ -16,7 +19,8 @@ use Rattle.tptp_words.proofs.Gaps.{gap_first}
 
 -- ---- words
 
-pub cut_taken : {P : List ℕ → Type 0} {text : List ℕ} {n : ℕ} (c : Cut P text n) → take n text ≡ c.front
+pub cut_taken : {P : List ℕ → Type 0} {text : List ℕ} {n : ℕ} (c : Cut P text n)
+    → take n text ≡ c.front
 cut_taken {P} {text} {n} c =
     ap (λ z. take n z) c.is ∙ ap (λ m. take m (c.front ++ c.rest)) (sym c.size)
     ∙ take-append_seam c.front c.rest
@@ -62,7 +66,8 @@ pub sound : (total n : ℕ) (text : List ℕ) → length text ≤ n
 unfolding left_from
 sound total zero [] h = ([], none, refl)
 sound total zero (b ∷ text) h = absurd (omega (arith, h))
-sound total (suc n) text h = go (piece_at text) refl (piece_says text) (λ more i. sound total n more i)
+sound total (suc n) text h =
+    go (piece_at text) refl (piece_says text) (λ more i. sound total n more i)
   where
     Holds : Left → Type 0
     Holds l = IsText total text l.words l.fault
@@ -84,7 +89,8 @@ sound total (suc n) text h = go (piece_at text) refl (piece_says text) (λ more 
           none,
           longest_of text kind m e s,
           refl,
-          below (drop m text) (let left = length-drop m text in omega (arith, left, some.0, some.1, h)),
+          below (drop m text) (let left =
+              length-drop m text in omega (arith, left, some.0, some.1, h)),
         )
     go (piece.Bad m) e s below = (text, none, (drop m text, s.1, refl))
     go piece.Open e s below = (text, none, (s, refl))
@@ -139,9 +145,11 @@ gap_leaves total l (comment body {text = text} h g) k =
     let count : prefix_len not_feed whole ≡ length body
     = prefix_len-over not_feed body (line_feed ∷ text) h ∙ omega arith in
     let size = length-append body (line_feed ∷ text) in
-    turned total (percent ∷ whole) (piece.Gap (2 + prefix_len not_feed whole)) l (begun-percent whole)
+    turned total (percent ∷ whole) (piece.Gap (2 + prefix_len not_feed whole)) l
+    (begun-percent whole)
     (omega arith)
-    (λ n i. ap (left_from total n) (behind_line body text (2 + prefix_len not_feed whole) (omega (arith, count)))
+    (λ n i. ap (left_from total n)
+    (behind_line body text (2 + prefix_len not_feed whole) (omega (arith, count)))
     ∙ gap_leaves total l g k n (omega (arith, i, size)))
 gap_leaves total l (last_comment body h) k =
     let none_left : drop (2 + prefix_len not_feed body) (percent ∷ body) ≡ [] = last_line body h in

@@ -1,5 +1,5 @@
--- Words go through a machine, and a byte at which it dies ends the longest word. More than words goes
--- through, so a word that ends so is followed by what no word goes on with.
+-- Words go through a machine, and a byte at which it dies ends the longest word. More than words
+-- goes through, so a word that ends so is followed by what no word goes on with.
 use Rattle.std.proofs.Common.{◌≡◌, ℕ, ◌≤◌, ◌⊎◌, inl, inr, Bool, true, false, ◌||◌, ◌&&◌, ◌==◌}
 use Rattle.std.proofs.Common.{if◌then◌else◌, List, [], ◌∷◌, ◌++◌, length, refl, sym, ◌∙◌, ap, subst}
 use Rattle.std.proofs.Common.{arith}
@@ -9,14 +9,17 @@ use Rattle.std.specs.Char.{is_ascii_lowercase, is_ascii_uppercase, is_ascii_digi
 use Rattle.tptp_words.specs.declared.word.WordKind.{WordKind}
 use Rattle.tptp_words.specs.declared.word.WordKind.TheVariants.{Lower, Upper, Quoted, Distinct}
 use Rattle.tptp_words.specs.declared.word.WordKind.TheVariants.{Dollar, System, Number, Mark}
-use Rattle.tptp_words.specs.Text.{Token, is_name, single_quote, double_quote, backslash, dollar_sign}
-use Rattle.tptp_words.specs.Text.{point, slash, AllPass, IsNameFrom, OneOf, marks, escaped, in_quotes}
-use Rattle.tptp_words.specs.Text.{IsDigits, IsSign, IsFraction, IsExponent, IsTail, Spells, IsLongest}
+use Rattle.tptp_words.specs.Text.{Token, is_name, single_quote, double_quote, backslash}
+use Rattle.tptp_words.specs.Text.{dollar_sign}
+use Rattle.tptp_words.specs.Text.{point, slash, AllPass, IsNameFrom, OneOf, marks, escaped}
+use Rattle.tptp_words.specs.Text.{in_quotes}
+use Rattle.tptp_words.specs.Text.{IsDigits, IsSign, IsFraction, IsExponent, IsTail, Spells}
+use Rattle.tptp_words.specs.Text.{IsLongest}
 use Rattle.tptp_words.proofs.Passes.{pass_weaker, pass_append}
 
 pub data State : Type 0 where
-  Begin Name Digits Money Single Double SingleEscape DoubleEscape Bang Tilde Equals Less Done : State
-  Dead : State
+  Begin Name Digits Money Single Double SingleEscape DoubleEscape : State
+  Bang Tilde Equals Less Done Dead : State
 
 abbrev pub is_letter : ℕ → Bool
 is_letter b = is_ascii_lowercase b || is_ascii_uppercase b
@@ -90,12 +93,14 @@ longer q u rest [] after e d l = omega arith
 longer q [] [] (b ∷ s) after e d l = absurd (cc e)
 longer q [] (c ∷ rest) (b ∷ s) after e d l =
     let same : b ≡ c = cc e in
-    let k : run (step q b) s ≡ Dead = ap (λ z. run (step q z) s) same ∙ ap (λ r. run r s) d ∙ run-dead s in
+    let k : run (step q b) s ≡ Dead = ap (λ z. run (step q z) s) same ∙ ap (λ r. run r s) d
+    ∙ run-dead s in
     absurd (cc (sym l ∙ ap lives k))
 longer q (c ∷ u) rest (b ∷ s) after e d l =
     let same : b ≡ c = cc e in
     let tails : u ++ rest ≡ s ++ after = cc e in
-    let r = longer (step q c) u rest s after tails d (subst (λ z. lives (run (step q z) s) ≡ true) same l) in
+    let r = longer (step q c) u rest s after tails d
+    (subst (λ z. lives (run (step q z) s) ≡ true) same l) in
     omega arith
 
 -- ---- every spelled word goes through

@@ -1,5 +1,8 @@
 -- The mark at the front of a text is found, and it is the longest.
-use Rattle.std.proofs.Common.{◌≡◌, ℕ, zero, suc, ◌≤◌, ◌⊎◌, inl, inr, Bool, true, false, ◌||◌, ◌&&◌, ◌==◌, if◌then◌else◌, List, [], ◌∷◌, ◌++◌, length, take, drop, slice_index, codes, refl, sym, ap, subst, arith, rules, lit≤, zero-le, length-take}
+use Rattle.std.proofs.Common.{◌≡◌, ℕ, zero, suc, ◌≤◌, ◌⊎◌, inl, inr, Bool, true, false, ◌||◌, ◌&&◌}
+use Rattle.std.proofs.Common.{◌==◌, if◌then◌else◌, List, [], ◌∷◌, ◌++◌, length, take, drop}
+use Rattle.std.proofs.Common.{slice_index, codes, refl, sym, ap, subst, arith, rules, lit≤, zero-le}
+use Rattle.std.proofs.Common.{length-take}
 use Rattle.std.proofs.Math.Nat.{le_refl, le_trans}
 use Rattle.std.proofs.lemmas.List.{take-append-drop}
 use Rattle.std.proofs.lemmas.Bool.{eqb-true}
@@ -125,7 +128,8 @@ one_in : (ms : List ℕ) (b : ℕ) → EachByte ms → is_in ms b ≡ true → O
 one_in [] b h e = absurd (cc e)
 one_in (m ∷ ms) b h e = go (λ i. one_in ms b h.1 i) (b == m) refl e
   where
-    go : (is_in ms b ≡ true → OneOf (b ∷ []) marks) → (v : Bool) → (b == m) ≡ v → (v || is_in ms b) ≡ true → OneOf (b ∷ []) marks
+    go : (is_in ms b ≡ true → OneOf (b ∷ []) marks) → (v : Bool) → (b == m) ≡ v
+        → (v || is_in ms b) ≡ true → OneOf (b ∷ []) marks
     go later true f i = subst (λ z. OneOf (z ∷ []) marks) (sym (eqb-true b m f)) h.0
     go later false f i = later i
 
@@ -171,7 +175,8 @@ equals_found b c d e = go (c == 62) refl
 
 mark_found : (b c d : ℕ) → Found b c d (mark_len b c d)
 mark_found b c d =
-    go (b == 60) (b == 33) (b == 61) (b == 126) (is_in (codes "()[],.:&|?>*") b) refl refl refl refl refl
+    go (b == 60) (b == 33) (b == 61) (b == 126)
+    (is_in (codes "()[],.:&|?>*") b) refl refl refl refl refl
   where
     go : (v w x y z : Bool) → (b == 60) ≡ v → (b == 33) ≡ w → (b == 61) ≡ x → (b == 126) ≡ y
         → is_in (codes "()[],.:&|?>*") b ≡ z

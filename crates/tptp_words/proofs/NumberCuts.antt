@@ -1,12 +1,17 @@
 -- What is taken for a number at the front of a text spells one.
-use Rattle.std.proofs.Common.{◌≡◌, ℕ, ◌+◌, ◌⊎◌, inl, inr, Bool, true, false, ◌||◌, ◌==◌, if◌then◌else◌, List, [], ◌∷◌, ◌++◌, length, drop, refl, sym, ◌∙◌, ap, subst, arith, append_assoc, length-append}
+use Rattle.std.proofs.Common.{◌≡◌, ℕ, ◌+◌, ◌⊎◌, inl, inr, Bool, true, false, ◌||◌, ◌==◌}
+use Rattle.std.proofs.Common.{if◌then◌else◌, List, [], ◌∷◌, ◌++◌, length, drop, refl, sym, ◌∙◌, ap}
+use Rattle.std.proofs.Common.{subst, arith, append_assoc, length-append}
 use Rattle.std.proofs.lemmas.Bool.{eqb-true}
 use Rattle.std.specs.Char.{is_ascii_digit}
 use Rattle.tptp_words.specs.declared.word.WordKind.TheVariants.{Number}
 use Rattle.tptp_words.specs.declared.piece.Piece.{Piece}
 use Rattle.tptp_words.specs.declared.piece.Piece.TheVariants as piece
-use Rattle.tptp_words.specs.Text.{AllPass, IsDigits, IsSign, IsFraction, IsExponent, IsTail, Spells, slash, point}
-use Rattle.tptp_words.specs.Scanning.{sign_len, digits_len, with_digits, part_len, is_e, exponent_of, exponent_len, decimal_len, tail_len, number_of, number_at}
+use Rattle.tptp_words.specs.Text.{AllPass, IsDigits, IsSign, IsFraction, IsExponent, IsTail, Spells}
+use Rattle.tptp_words.specs.Text.{slash, point}
+use Rattle.tptp_words.specs.Scanning.{sign_len, digits_len, with_digits, part_len, is_e}
+use Rattle.tptp_words.specs.Scanning.{exponent_of, exponent_len, decimal_len, tail_len, number_of}
+use Rattle.tptp_words.specs.Scanning.{number_at}
 use Rattle.tptp_words.proofs.Passes.{Cut, drop-front, drop-twice, cut_passing, some_by_length}
 
 -- a piece that is a word, or the first byte, which begins none
@@ -121,7 +126,8 @@ cut_exponent (b ∷ text) = go (is_e b) refl
 
     go : (v : Bool) → is_e b ≡ v
         → Cut IsExponent (b ∷ text) (if v then exponent_of (sign_len text) (b ∷ text) else 0)
-    go true e = subst (λ z. Cut IsExponent (b ∷ text) (with_digits (1 + sign_len text) (digits_len z)))
+    go true e = subst (λ z. Cut IsExponent (b ∷ text)
+        (with_digits (1 + sign_len text) (digits_len z)))
         (sym left) (counted e (digits_len s.rest == 0) refl)
     go false e = nothing IsExponent (b ∷ text) (inl refl)
 
@@ -157,7 +163,8 @@ cut_tail text = go (part_len slash text == 0) refl
     ratio e (inr there) = inl there
 
     go : (v : Bool) → (part_len slash text == 0) ≡ v
-        → Cut IsTail text (if v then decimal_len (part_len point text) text else part_len slash text)
+        → Cut IsTail text (if v then decimal_len (part_len point text) text
+        else part_len slash text)
     go true e =
         subst (λ z. Cut IsTail text (part_len point text + exponent_len z)) (sym left) decimal
     go false e = record {
@@ -170,7 +177,8 @@ cut_tail text = go (part_len slash text == 0) refl
 
 pub number_takes : (text : List ℕ) → Takes text (number_at text)
 unfolding number_at
-number_takes text = subst (λ z. Takes text (number_of (sign_len text) (digits_len z) text)) (sym left)
+number_takes text = subst (λ z. Takes text (number_of (sign_len text) (digits_len z) text))
+    (sym left)
     (go (digits_len s.rest == 0) refl)
   where
     s : Cut IsSign text (sign_len text)

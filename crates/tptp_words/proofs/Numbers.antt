@@ -1,11 +1,15 @@
 -- The number at the front of a text is found, and it is the longest.
-use Rattle.std.proofs.Common.{◌≡◌, ℕ, ◌+◌, ◌≤◌, ◌⊎◌, inl, inr, true, false, ◌==◌, if◌then◌else◌, List, [], ◌∷◌, ◌++◌, length, drop, refl, sym, ◌∙◌, ap, subst, arith, append_assoc, append-nil, length-append}
+use Rattle.std.proofs.Common.{◌≡◌, ℕ, ◌+◌, ◌≤◌, ◌⊎◌, inl, inr, true, false, ◌==◌, if◌then◌else◌}
+use Rattle.std.proofs.Common.{List, [], ◌∷◌, ◌++◌, length, drop, refl, sym, ◌∙◌, ap, subst, arith}
+use Rattle.std.proofs.Common.{append_assoc, append-nil, length-append}
 use Rattle.std.proofs.lemmas.Bool.Decides.{nat_tests}
 use Rattle.std.specs.Char.{is_ascii_digit}
 use Rattle.tptp_words.specs.declared.word.WordKind.TheVariants.{Number}
 use Rattle.tptp_words.specs.declared.piece.Piece.TheVariants as piece
 use Rattle.tptp_words.specs.Text.{IsDigits, IsSign, IsExponent, IsTail, slash, point}
-use Rattle.tptp_words.specs.Scanning.{is_sign, sign_len, digits_len, with_digits, part_len, is_e, exponent_of, exponent_len, decimal_len, tail_len, number_of, number_with, number_at}
+use Rattle.tptp_words.specs.Scanning.{is_sign, sign_len, digits_len, with_digits, part_len, is_e}
+use Rattle.tptp_words.specs.Scanning.{exponent_of, exponent_len, decimal_len, tail_len, number_of}
+use Rattle.tptp_words.specs.Scanning.{number_with, number_at}
 use Rattle.tptp_words.proofs.Passes.{drop-front, drop-twice, prefix_len-over, some_length}
 
 -- ---- what is spelled is found
@@ -41,14 +45,16 @@ point_over : (ds rest : List ℕ) → IsDigits ds
 unfolding part_len
 point_over ds rest h =
     ap (λ n. with_digits 1 n) (digits_over ds rest h)
-    ∙ with_some 1 (length ds + digits_len rest) (let some = some_length ds h.1 in omega (arith, some))
+    ∙ with_some 1 (length ds + digits_len rest)
+    (let some = some_length ds h.1 in omega (arith, some))
 
 slash_over : (ds rest : List ℕ) → IsDigits ds
     → part_len slash (slash ∷ (ds ++ rest)) ≡ 1 + (length ds + digits_len rest)
 unfolding part_len
 slash_over ds rest h =
     ap (λ n. with_digits 1 n) (digits_over ds rest h)
-    ∙ with_some 1 (length ds + digits_len rest) (let some = some_length ds h.1 in omega (arith, some))
+    ∙ with_some 1 (length ds + digits_len rest)
+    (let some = some_length ds h.1 in omega (arith, some))
 
 exponent_over : (e : ℕ) (sign ds rest : List ℕ) → is_e e ≡ true → IsSign sign → IsDigits ds
     → length (e ∷ (sign ++ ds)) ≤ exponent_len (e ∷ (sign ++ (ds ++ rest)))
@@ -96,7 +102,8 @@ record Follows (tail rest : List ℕ) : Type 0 where
   pub found : length tail ≤ tail_len (tail ++ rest)
 
 exponent_follows : (exponent rest : List ℕ) → Exponent exponent rest → Follows exponent rest
-exponent_follows exponent rest h = record { stops = h.stops; found = omega (arith, h.found, h.alone) }
+exponent_follows exponent rest h =
+    record { stops = h.stops; found = omega (arith, h.found, h.alone) }
 
 ratio_follows : (ds rest : List ℕ) → IsDigits ds → Follows (slash ∷ ds) rest
 unfolding tail_len
@@ -112,7 +119,8 @@ ratio_follows ds rest h = record {
 }
 
 point_is : (text : List ℕ) → tail_len (point ∷ text)
-    ≡ part_len point (point ∷ text) + exponent_len (drop (part_len point (point ∷ text)) (point ∷ text))
+    ≡ part_len point (point ∷ text) + exponent_len
+    (drop (part_len point (point ∷ text)) (point ∷ text))
 unfolding tail_len part_len
 point_is text = refl
 
@@ -131,7 +139,8 @@ decimal_found ds exponent rest h (inr x) =
     let over : part_len point text ≡ 1 + length ds
     = point_over ds (exponent ++ rest) h ∙ (let stops = x.stops in omega (arith, stops)) in
     let left : drop (part_len point text) text ≡ exponent ++ rest =
-    drop-front text (point ∷ ds) (exponent ++ rest) (part_len point text) refl (omega (arith, over)) in
+    drop-front text (point ∷ ds) (exponent ++ rest) (part_len point text) refl
+    (omega (arith, over)) in
     let is = point_is (ds ++ (exponent ++ rest)) in
     let more : exponent_len (drop (part_len point text) text) ≡ exponent_len (exponent ++ rest)
     = ap exponent_len left in

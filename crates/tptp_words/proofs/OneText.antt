@@ -1,5 +1,7 @@
 -- A text has at most one list of words and one error, and these are found.
-use Rattle.std.proofs.Common.{◌≡◌, ℕ, zero, suc, ◌+◌, ◌≤◌, inl, inr, Bool, true, false, List, [], ◌∷◌, ◌++◌, length, take, drop, refl, sym, ◌∙◌, ap, subst, arith, length-append, length-drop}
+use Rattle.std.proofs.Common.{◌≡◌, ℕ, zero, suc, ◌+◌, ◌≤◌, inl, inr, Bool, true, false, List, []}
+use Rattle.std.proofs.Common.{◌∷◌, ◌++◌, length, take, drop, refl, sym, ◌∙◌, ap, subst, arith}
+use Rattle.std.proofs.Common.{length-append, length-drop}
 use Rattle.std.specs.Prelude.{Option, Some, None}
 use Rattle.std.proofs.Math.Nat.{le_refl}
 use Rattle.std.proofs.Math.Seq.{take-append_seam}
@@ -7,7 +9,9 @@ use Rattle.tptp_words.specs.declared.word.WordError.{WordError}
 use Rattle.tptp_words.specs.declared.word.WordError.TheVariants.{BadByte, Unclosed}
 use Rattle.tptp_words.specs.declared.piece.Piece.{Piece}
 use Rattle.tptp_words.specs.declared.piece.Piece.TheVariants as piece
-use Rattle.tptp_words.specs.Text.{Token, Placed, star, is_quote, begins_gap, escaped, Spells, IsLongest, NoWord, IsOpened, IsBadByte, IsUnclosed, place, Stops, IsText}
+use Rattle.tptp_words.specs.Text.{Token, Placed, star, is_quote, begins_gap, escaped, Spells}
+use Rattle.tptp_words.specs.Text.{IsLongest, NoWord, IsOpened, IsBadByte, IsUnclosed, place, Stops}
+use Rattle.tptp_words.specs.Text.{IsText}
 use Rattle.tptp_words.specs.Scanning.{piece_at, Left, behind, word_at, left_from, left}
 use Rattle.tptp_words.proofs.Passes.{Cut, drop-front}
 use Rattle.tptp_words.proofs.Says.{Says}
@@ -20,7 +24,8 @@ use Rattle.tptp_words.proofs.Lists.{spelled_some, sound, Leaves, turned, gap_lea
 -- ---- errors
 
 abbrev BadFound : List ℕ → List ℕ → Type 0
-BadFound start rest = (m : ℕ) × (piece_at start ≡ piece.Bad m) × (drop m start ≡ rest) × (1 ≤ length start)
+BadFound start rest =
+    (m : ℕ) × (piece_at start ≡ piece.Bad m) × (drop m start ≡ rest) × (1 ≤ length start)
 
 stray_found : (b : ℕ) (after : List ℕ) → is_quote b ≡ false → begins_gap b after ≡ false
     → NoWord (b ∷ after) → BadFound (b ∷ after) (b ∷ after)
@@ -29,7 +34,8 @@ stray_found b after q g no_word = go (piece_at (b ∷ after)) refl (piece_says (
     start : List ℕ
     start = b ∷ after
 
-    no_quote : {A : Type 0} (quote : ℕ) (content rest : List ℕ) → IsOpened quote content start rest → A
+    no_quote : {A : Type 0} (quote : ℕ) (content rest : List ℕ) → IsOpened quote content start rest
+        → A
     no_quote quote content rest o =
         let same : b ≡ quote = cc o.is in
         absurd (cc (q, o.quotes, ap is_quote same))
@@ -93,7 +99,8 @@ stops_leaves total (b ∷ after) None e = absurd (cc e)
 stops_leaves total start (Some (BadByte at)) (rest, bad, e) =
     let f = bad_found start rest bad in
     turned total start (piece.Bad f.0) _ f.1 f.3
-    (λ n i. ap (λ j. record { words = []; fault = Some (BadByte j) }) (ap (place total) f.2 ∙ sym e))
+    (λ n i. ap (λ j. record { words = []; fault = Some (BadByte j) })
+    (ap (place total) f.2 ∙ sym e))
 stops_leaves total start (Some (Unclosed at)) (unclosed, e) =
     let f = unclosed_found start unclosed in
     turned total start piece.Open _ f.0 f.1
@@ -112,7 +119,11 @@ longest_found start w rest l =
     is ∙ ap (λ m. piece.Word w.kind m) same
 
 word_is : (w : Placed) (spelling : List ℕ) (from : ℕ) → w.token.spelling ≡ spelling → w.from ≡ from
-    → ◌≡◌ {A = Placed} (record { token = record { kind = w.token.kind; spelling = spelling }; from = from }) w
+    → ◌≡◌ {A = Placed} (record {
+      token = record { kind = w.token.kind; spelling = spelling };
+      from =
+          from;
+    }) w
 word_is w spelling from e f =
     ap (λ s. record { token = record { kind = w.token.kind; spelling = s }; from = from }) (sym e)
     ∙ ap (λ i. record { token = w.token; from = i }) (sym f)
@@ -126,7 +137,8 @@ unique total (w ∷ ws) fault text (start, rest, g, l, from, more) =
     (turned total start (piece.Word w.token.kind (length w.token.spelling)) _
     (longest_found start w.token rest l) (omega (arith, some, size))
     (λ n i.
-    ap (λ z. behind (word_at total start w.token.kind (length w.token.spelling)) (left_from total n z)) left
+    ap (λ z. behind (word_at total start w.token.kind (length w.token.spelling))
+    (left_from total n z)) left
     ∙ ap (λ l. behind (word_at total start w.token.kind (length w.token.spelling)) l)
     (unique total ws fault rest more n (omega (arith, some, size, i)))
     ∙ ap (λ p. behind p (record { words = ws; fault = fault }))
@@ -149,7 +161,8 @@ pub is_text : (total : ℕ) (text : List ℕ)
 unfolding left
 is_text total text = sound total (length text) text (le_refl (length text))
 
-pub fuel : (total n : ℕ) (text : List ℕ) → length text ≤ n → left_from total n text ≡ left total text
+pub fuel : (total n : ℕ) (text : List ℕ) → length text ≤ n
+    → left_from total n text ≡ left total text
 fuel total n text h =
     unique total (left total text).words (left total text).fault text (is_text total text) n h
 

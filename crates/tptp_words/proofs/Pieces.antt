@@ -1,22 +1,32 @@
 -- The piece at the front of a text is what stands there.
-use Rattle.std.proofs.Common.{◌≡◌, ℕ, ◌+◌, ◌≤◌, ◌⊎◌, inl, inr, Bool, true, false, not, cond, ◌||◌, ◌&&◌, ◌==◌, if◌then◌else◌, List, [], ◌∷◌, ◌++◌, length, drop, slice_index, refl, sym, ◌∙◌, ap, subst, arith, append_assoc, append-nil, length-append}
+use Rattle.std.proofs.Common.{◌≡◌, ℕ, ◌+◌, ◌≤◌, ◌⊎◌, inl, inr, Bool, true, false, not, cond, ◌||◌}
+use Rattle.std.proofs.Common.{◌&&◌, ◌==◌, if◌then◌else◌, List, [], ◌∷◌, ◌++◌, length, drop}
+use Rattle.std.proofs.Common.{slice_index, refl, sym, ◌∙◌, ap, subst, arith, append_assoc}
+use Rattle.std.proofs.Common.{append-nil, length-append}
 use Rattle.std.proofs.lemmas.Bool.{eqb-true}
 use Rattle.std.proofs.lemmas.Bool.Decides.{nat_tests}
 use Rattle.std.specs.Char.{is_ascii_lowercase, is_ascii_uppercase, is_ascii_digit}
 use Rattle.std.specs.List.{prefix_len}
 use Rattle.tptp_words.specs.declared.word.WordKind.{WordKind}
-use Rattle.tptp_words.specs.declared.word.WordKind.TheVariants.{Lower, Upper, Quoted, Distinct, Dollar, System, Number, Mark}
+use Rattle.tptp_words.specs.declared.word.WordKind.TheVariants.{Lower, Upper, Quoted, Distinct}
+use Rattle.tptp_words.specs.declared.word.WordKind.TheVariants.{Dollar, System, Number, Mark}
 use Rattle.tptp_words.specs.declared.piece.Piece.{Piece}
 use Rattle.tptp_words.specs.declared.piece.Piece.TheVariants as piece
-use Rattle.tptp_words.specs.Text.{is_name, is_blank, not_feed, line_feed, percent, slash, star, single_quote, double_quote, dollar_sign, is_quote, is_printable, AllPass, some_bytes, OneOf, marks, escaped, IsDigits, IsSign, Spells, NoWord, Gap, none, blank, comment, last_comment, begins_gap}
-use Rattle.tptp_words.specs.Scanning.{is_sign, is_number_start, quoted_from, block_at, dollar_at, number_at, mark_at, begun, piece_at}
+use Rattle.tptp_words.specs.Text.{is_name, is_blank, not_feed, line_feed, percent, slash, star}
+use Rattle.tptp_words.specs.Text.{single_quote, double_quote, dollar_sign, is_quote, is_printable}
+use Rattle.tptp_words.specs.Text.{AllPass, some_bytes, OneOf, marks, escaped, IsDigits, IsSign}
+use Rattle.tptp_words.specs.Text.{Spells, NoWord, Gap, none, blank, comment, last_comment}
+use Rattle.tptp_words.specs.Text.{begins_gap}
+use Rattle.tptp_words.specs.Scanning.{is_sign, is_number_start, quoted_from, block_at, dollar_at}
+use Rattle.tptp_words.specs.Scanning.{number_at, mark_at, begun, piece_at}
 use Rattle.tptp_words.proofs.Passes.{Cut, drop-front, drop_past, prefix_len-over, cut_passing}
 use Rattle.tptp_words.proofs.Numbers.{number_over}
 use Rattle.tptp_words.proofs.NumberCuts.{Takes, number_takes}
 use Rattle.tptp_words.proofs.Marks.{Each, one_of_each, mark_over, mark_takes}
 use Rattle.tptp_words.proofs.Quotes.{quoted_over, closing_is, length-escaped-some, quoted_says}
 use Rattle.tptp_words.proofs.Blocks.{block_says}
-use Rattle.tptp_words.proofs.Names.{name_over, dollar_over, system_over, dollar_length, cut_name, dollar_takes}
+use Rattle.tptp_words.proofs.Names.{name_over, dollar_over, system_over, dollar_length, cut_name}
+use Rattle.tptp_words.proofs.Names.{dollar_takes}
 use Rattle.tptp_words.proofs.Says.{Says}
 
 -- ---- by the first byte
@@ -59,7 +69,8 @@ begun-blank b rest e = begun_is b rest true _ _ _ _ _ _ _ e refl refl refl refl 
 begun-lower : (b : ℕ) (rest : List ℕ) → is_ascii_lowercase b ≡ true
     → begun b rest ≡ piece.Word Lower (1 + prefix_len is_name rest)
 begun-lower b rest e =
-    begun_is b rest false true _ _ _ _ _ _ (grind (arith, nat_tests)) e refl refl refl refl refl refl
+    begun_is b rest false true _ _ _ _ _ _
+    (grind (arith, nat_tests)) e refl refl refl refl refl refl
 
 begun-upper : (b : ℕ) (rest : List ℕ) → is_ascii_uppercase b ≡ true
     → begun b rest ≡ piece.Word Upper (1 + prefix_len is_name rest)
@@ -213,7 +224,8 @@ found_quoted content rest p some =
     )
 
 found_distinct : (content rest : List ℕ) → AllPass is_printable content
-    → IsFound ((double_quote ∷ (escaped double_quote content ++ double_quote ∷ [])) ++ rest) Distinct
+    → IsFound ((double_quote ∷
+    (escaped double_quote content ++ double_quote ∷ [])) ++ rest) Distinct
     (length (double_quote ∷ (escaped double_quote content ++ double_quote ∷ [])))
 found_distinct content rest p =
     let text : List ℕ = escaped double_quote content ++ double_quote ∷ rest in
@@ -248,7 +260,8 @@ found_number : (s rest : List ℕ) → Spells Number s → IsFound (s ++ rest) N
 found_number s rest (sign, ds, tail, i, h, t, e) =
     let text : List ℕ = sign ++ (ds ++ (tail ++ rest)) in
     let same : s ++ rest ≡ text =
-    ap (λ z. z ++ rest) e ∙ append_assoc (sign ++ ds) tail rest ∙ append_assoc sign ds (tail ++ rest) in
+    ap (λ z. z ++ rest) e ∙ append_assoc (sign ++ ds) tail rest
+    ∙ append_assoc sign ds (tail ++ rest) in
     let over = number_over sign ds tail rest i h t in
     let two = length-append (sign ++ ds) tail in
     let one = length-append sign ds in
@@ -258,7 +271,8 @@ found_number s rest (sign, ds, tail, i, h, t, e) =
       omega (arith, over.2, two, one, size),
     )
 
-pub found : (kind : WordKind) (s rest : List ℕ) → Spells kind s → IsFound (s ++ rest) kind (length s)
+pub found : (kind : WordKind) (s rest : List ℕ) → Spells kind s
+    → IsFound (s ++ rest) kind (length s)
 found Lower [] rest h = absurd h
 found Lower (b ∷ bs) rest h =
     let over = name_over bs rest h.1 in
@@ -368,7 +382,8 @@ line_says rest = (omega arith, omega arith, go c.rest c.is)
         let text : rest ≡ c.front ++ line_feed ∷ left = is ∙ ap (λ z. c.front ++ z ∷ left) feed in
         let two : length (c.front ++ line_feed ∷ []) ≡ length c.front + 1
         = length-append c.front (line_feed ∷ []) in
-        let left_is : drop (2 + prefix_len not_feed rest) (percent ∷ (c.front ++ line_feed ∷ left)) ≡ left =
+        let left_is : drop (2 + prefix_len not_feed rest) (percent ∷ (c.front ++ line_feed ∷ left))
+        ≡ left =
         drop-front (percent ∷ (c.front ++ line_feed ∷ left)) (percent ∷ (c.front ++ line_feed ∷ []))
         left (2 + prefix_len not_feed rest)
         (ap (λ z. percent ∷ z) (sym (append_assoc c.front (line_feed ∷ []) left)))
@@ -416,7 +431,8 @@ piece_says (b ∷ rest) =
     go true v2 v3 v4 v5 v6 v7 v8 e1 e2 e3 e4 e5 e6 e7 e8 =
         (omega arith, omega arith, blank e1 none)
     go false true v3 v4 v5 v6 v7 v8 e1 e2 e3 e4 e5 e6 e7 e8 = cut_name is_ascii_lowercase b rest e2
-    go false false true v4 v5 v6 v7 v8 e1 e2 e3 e4 e5 e6 e7 e8 = cut_name is_ascii_uppercase b rest e3
+    go false false true v4 v5 v6 v7 v8 e1 e2 e3 e4 e5 e6 e7 e8 =
+        cut_name is_ascii_uppercase b rest e3
     go false false false true v5 v6 v7 v8 e1 e2 e3 e4 e5 e6 e7 e8 =
         subst (λ z. Says (z ∷ rest) (piece.Gap (2 + prefix_len not_feed rest)))
         (sym (eqb-true b percent e4)) (line_says rest)

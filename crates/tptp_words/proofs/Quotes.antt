@@ -1,11 +1,15 @@
 -- Quoted text is found up to its closing quote, or to the byte that is not allowed in it.
-use Rattle.std.proofs.Common.{◌≡◌, ℕ, ◌+◌, ◌≤◌, inl, inr, Bool, true, false, ◌||◌, ◌&&◌, ◌==◌, if◌then◌else◌, List, [], ◌∷◌, ◌++◌, length, drop, refl, sym, ◌∙◌, ap, subst, arith, append_assoc, length-append, eq-eqb}
+use Rattle.std.proofs.Common.{◌≡◌, ℕ, ◌+◌, ◌≤◌, inl, inr, Bool, true, false, ◌||◌, ◌&&◌, ◌==◌}
+use Rattle.std.proofs.Common.{if◌then◌else◌, List, [], ◌∷◌, ◌++◌, length, drop, refl, sym, ◌∙◌, ap}
+use Rattle.std.proofs.Common.{subst, arith, append_assoc, length-append, eq-eqb}
 use Rattle.std.proofs.lemmas.Bool.{eqb-true}
 use Rattle.std.proofs.lemmas.Bool.Decides.{nat_tests}
 use Rattle.tptp_words.specs.declared.word.WordKind.TheVariants.{Quoted, Distinct}
 use Rattle.tptp_words.specs.declared.piece.Piece.{Piece}
 use Rattle.tptp_words.specs.declared.piece.Piece.TheVariants as piece
-use Rattle.tptp_words.specs.Text.{single_quote, double_quote, backslash, is_printable, is_quote, AllPass, some_bytes, escaped, in_quotes, Spells, IsOpened, NoEscape, IsForbidden, IsBadByte}
+use Rattle.tptp_words.specs.Text.{single_quote, double_quote, backslash, is_printable, is_quote}
+use Rattle.tptp_words.specs.Text.{AllPass, some_bytes, escaped, in_quotes, Spells, IsOpened}
+use Rattle.tptp_words.specs.Text.{NoEscape, IsForbidden, IsBadByte}
 use Rattle.tptp_words.specs.Scanning.{closed_at, quoted_from}
 use Rattle.tptp_words.proofs.Passes.{Cut, drop-front, pass_append}
 use Rattle.tptp_words.proofs.Says.{Says}
@@ -152,10 +156,13 @@ rest_there {q} {content} {start} {text} {n} r =
     drop-front start (q ∷ escaped q content) text n r.opened.is (omega (arith, r.size))
 
 bad_here : {q : ℕ} {content start : List ℕ} {b : ℕ} {text : List ℕ} {n : ℕ}
-    → Reads q content start (b ∷ text) n → IsForbidden q content (b ∷ text) → Says start (piece.Bad n)
+    → Reads q content start (b ∷ text) n → IsForbidden q content (b ∷ text)
+    → Says start (piece.Bad n)
 bad_here {q} {content} {start} {b} {text} {n} r f =
-    let total : length start ≡ length (q ∷ (escaped q content ++ b ∷ text)) = ap length r.opened.is in
-    let all : length (escaped q content ++ b ∷ text) ≡ length (escaped q content) + length (b ∷ text)
+    let total : length start ≡ length (q ∷ (escaped q content ++ b ∷ text)) =
+    ap length r.opened.is in
+    let all : length (escaped q content ++ b ∷ text)
+    ≡ length (escaped q content) + length (b ∷ text)
     = length-append (escaped q content) (b ∷ text) in (
       omega (arith, total, all, r.size),
       subst (λ z. IsBadByte start z) (sym (rest_there r)) (inr (q, content, r.opened, f)),
@@ -185,7 +192,8 @@ quote_is q h e = eqb-true q double_quote (sym (ap (λ v. v || q == double_quote)
 
 some_content : (content : List ℕ) (n : ℕ) → n ≡ 1 + length (escaped single_quote content)
     → (n + 1 == 2) ≡ false → some_bytes content ≡ true
-some_content [] n size e = let two : n + 1 ≡ 2 = omega (arith, size) in absurd (cc (e, ap (λ m. m == 2) two))
+some_content [] n size e = let two : n + 1 ≡ 2 =
+    omega (arith, size) in absurd (cc (e, ap (λ m. m == 2) two))
 some_content (b ∷ content) n size e = refl
 
 -- quoted text up to its closing quote
@@ -249,12 +257,14 @@ mutual
       → Reads q content start text n → Says start (quoted_from q n false text)
   says_inside [] q content start n r = inr (q, content, r.opened)
   says_inside (b ∷ text) q content start n r =
-      subst (Says start) (sym (inside_is q n b text (b == q) (b == backslash) (is_printable b) refl refl refl))
+      subst (Says start) (sym
+      (inside_is q n b text (b == q) (b == backslash) (is_printable b) refl refl refl))
       (go (b == q) (b == backslash) (is_printable b) refl refl refl
       (λ c m k. says_inside text q c start m k) (λ k. says_escaped text q content start n k))
     where
       go : (v w x : Bool) → (b == q) ≡ v → (b == backslash) ≡ w → is_printable b ≡ x
-          → ((c : List ℕ) (m : ℕ) → Reads q c start text m → Says start (quoted_from q m false text))
+          → ((c : List ℕ) (m : ℕ) → Reads q c start text m
+          → Says start (quoted_from q m false text))
           → (Reads q content start (backslash ∷ text) n → Says start (quoted_from q n true text))
           → Says start (inside q n b text v w x)
       go true w x e f g rec behind =

@@ -1,13 +1,17 @@
 -- Words that are written with blanks are read back.
-use Rattle.std.proofs.Common.{◌≡◌, ℕ, ◌+◌, ◌≤◌, Bool, true, not, List, [], ◌∷◌, ◌++◌, length, refl, ◌∙◌, ap, subst, arith, append_assoc, length-append}
+use Rattle.std.proofs.Common.{◌≡◌, ℕ, ◌+◌, ◌≤◌, Bool, true, not, List, [], ◌∷◌, ◌++◌, length, refl}
+use Rattle.std.proofs.Common.{◌∙◌, ap, subst, arith, append_assoc, length-append}
 use Rattle.std.specs.Prelude.{Option, None}
 use Rattle.tptp_words.specs.declared.word.WordError.{WordError}
-use Rattle.tptp_words.specs.Text.{Token, Placed, is_blank, AllPass, some_bytes, Spells, Gap, none, blank, IsText}
+use Rattle.tptp_words.specs.Text.{Token, Placed, tokens, is_blank, AllPass, some_bytes, Spells}
+use Rattle.tptp_words.specs.Text.{Gap, none, blank, IsText}
 use Rattle.tptp_words.specs.Layout.{written, placed_from}
 use Rattle.tptp_words.specs.Laws.{Stand, IsReadBack}
 use Rattle.tptp_words.proofs.Gaps.{gap_first}
 use Rattle.tptp_words.proofs.Lists.{spelled_some}
-use Rattle.tptp_words.proofs.Longest.{State, Begin, Name, Digits, Money, Single, Double, SingleEscape, DoubleEscape, Bang, Tilde, Equals, Less, Done, Dead, step, run, lives, Ends, longest}
+use Rattle.tptp_words.proofs.Longest.{State, Begin, Name, Digits, Money, Single, Double}
+use Rattle.tptp_words.proofs.Longest.{SingleEscape, DoubleEscape, Bang, Tilde, Equals, Less, Done}
+use Rattle.tptp_words.proofs.Longest.{Dead, step, run, lives, Ends, longest}
 
 pub blanks : (g : List ℕ) {rest : List ℕ} → AllPass is_blank g → Gap (g ++ rest) rest
 blanks [] h = none
@@ -18,7 +22,8 @@ pub blanks_first : (total : ℕ) (g text : List ℕ) (ws : List Placed) (fault :
     → AllPass is_blank g → IsText total text ws fault → IsText total (g ++ text) ws fault
 blanks_first total g text ws fault h k = gap_first total ws fault (blanks g h) k
 
-module _ (before after : Token → List ℕ) (blank_before : (w : Token) → AllPass is_blank (before w)) (blank_after : (w : Token) → AllPass is_blank (after w)) where
+module _ (before after : Token → List ℕ) (blank_before : (w : Token) → AllPass is_blank (before w))
+    (blank_after : (w : Token) → AllPass is_blank (after w)) where
   -- what is written from behind the blanks before a word, and from behind the word
   abbrev rest_of : Token → List Token → List ℕ
   rest_of w ws = after w ++ written before after ws
@@ -147,3 +152,12 @@ module _ (before after : Token → List ℕ) (blank_before : (w : Token) → All
   -- words are read back where each is spelled and each neighbour passes the test
   pub reads_back : (ws : List Token) → AllMeet ws → IsReadBack before after ws
   reads_back ws h = reads (length (written before after ws)) 0 ws (all_meet ws h) (omega arith)
+
+-- the words that were written, without their places
+pub tokens-placed_from : (before after : Token → List ℕ) (at : ℕ) (ws : List Token)
+    → tokens (placed_from before after at ws) ≡ ws
+tokens-placed_from before after at [] = refl
+tokens-placed_from before after at (w ∷ ws) =
+    ap (λ z. w ∷ z)
+    (tokens-placed_from before after
+    (at + length (before w) + length w.spelling + length (after w)) ws)

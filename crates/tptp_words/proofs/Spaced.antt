@@ -1,14 +1,18 @@
 -- A blank ends each word.
-use Rattle.std.proofs.Common.{◌≡◌, ℕ, Bool, true, false, ◌||◌, ◌==◌, List, [], ◌∷◌, ◌++◌, length, refl, sym, ◌∙◌, ap, subst, arith, append_assoc}
+use Rattle.std.proofs.Common.{◌≡◌, ℕ, Bool, true, false, ◌||◌, ◌==◌, List, [], ◌∷◌, ◌++◌, length}
+use Rattle.std.proofs.Common.{refl, sym, ◌∙◌, ap, subst, arith, append_assoc}
 use Rattle.std.proofs.lemmas.Bool.{eqb-true}
 use Rattle.tptp_words.specs.declared.word.WordKind.{WordKind}
-use Rattle.tptp_words.specs.declared.word.WordKind.TheVariants.{Lower, Upper, Quoted, Distinct, Dollar, System, Number, Mark}
+use Rattle.tptp_words.specs.declared.word.WordKind.TheVariants.{Lower, Upper, Quoted, Distinct}
+use Rattle.tptp_words.specs.declared.word.WordKind.TheVariants.{Dollar, System, Number, Mark}
 use Rattle.tptp_words.specs.Text.{Token, is_blank, AllPass, some_bytes, marks, Spells}
 use Rattle.tptp_words.specs.Layout.{written}
 use Rattle.tptp_words.specs.Laws.{IsBlankLayout, Spaced, SpacedWordsAreRead, WrittenWordsAreRead}
 use Rattle.tptp_words.proofs.Passes.{pass_append}
 use Rattle.tptp_words.proofs.Marks.{Each, one_of_each}
-use Rattle.tptp_words.proofs.Longest.{State, Begin, Name, Digits, Done, Dead, step, run, Ends, lower_run, upper_run, quoted_run, distinct_run, dollar_run, system_run, number_ends}
+use Rattle.tptp_words.proofs.Longest.{State, Begin, Name, Digits, Done, Dead, step, run, Ends}
+use Rattle.tptp_words.proofs.Longest.{lower_run, upper_run, quoted_run, distinct_run, dollar_run}
+use Rattle.tptp_words.proofs.Longest.{system_run, number_ends}
 use Rattle.tptp_words.proofs.ReadBack as back
 
 -- ---- the machine dies at a blank behind each word
@@ -33,7 +37,9 @@ one_blank s b h e = go (b == 32) (b == 9) (b == 13) (b == 10) refl refl refl ref
     go false false false true e1 e2 e3 e4 i = at 10 e4 h.3
     go false false false false e1 e2 e3 e4 i = absurd (cc i)
 
-by_state : (q : State) (s : List ℕ) → run Begin s ≡ q → (step q 32 ≡ Dead) × (step q 9 ≡ Dead) × (step q 13 ≡ Dead) × (step q 10 ≡ Dead) → DiesAtBlanks s
+by_state : (q : State) (s : List ℕ) → run Begin s ≡ q
+    → (step q 32 ≡ Dead) × (step q 9 ≡ Dead) × (step q 13 ≡ Dead) × (step q 10 ≡ Dead)
+    → DiesAtBlanks s
 by_state q s e h = (
   ap (λ z. step z 32) e ∙ h.0,
   ap (λ z. step z 9) e ∙ h.1,

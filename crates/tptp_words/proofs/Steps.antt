@@ -1,5 +1,7 @@
 -- One step through a text, and the places of its words.
-use Rattle.std.proofs.Common.{◌≡◌, ℕ, ◌+◌, ◌-◌, ◌≤◌, ◌<◌, List, [], ◌∷◌, ◌++◌, length, take, drop, refl, sym, ◌∙◌, ap, subst, arith, append_assoc, length-append, length-drop}
+use Rattle.std.proofs.Common.{◌≡◌, ℕ, ◌+◌, ◌-◌, ◌≤◌, ◌<◌, List, [], ◌∷◌, ◌++◌, length, take, drop}
+use Rattle.std.proofs.Common.{refl, sym, ◌∙◌, ap, subst, arith, append_assoc, length-append}
+use Rattle.std.proofs.Common.{length-drop}
 use Rattle.std.specs.Prelude.{Option, Some, None}
 use Rattle.std.proofs.Math.Seq.{take-append_seam}
 use Rattle.tptp_words.specs.declared.word.WordKind.{WordKind}
@@ -20,7 +22,8 @@ use Rattle.tptp_words.proofs.OneText.{fuel}
 
 -- ---- what is left is what the piece in front says of what is behind it
 
-pub left-turn : (total : ℕ) (text : List ℕ) → left total text ≡ turn total (left total) text (piece_at text)
+pub left-turn : (total : ℕ) (text : List ℕ)
+    → left total text ≡ turn total (left total) text (piece_at text)
 unfolding left left_from
 left-turn total [] = refl
 left-turn total (b ∷ rest) = go (piece_at (b ∷ rest)) (piece_says (b ∷ rest))
@@ -31,7 +34,8 @@ left-turn total (b ∷ rest) = go (piece_at (b ∷ rest)) (piece_says (b ∷ res
     n : ℕ
     n = length rest
 
-    go : (p : Piece) → Says text p → turn total (left_from total n) text p ≡ turn total (left total) text p
+    go : (p : Piece) → Says text p
+        → turn total (left_from total n) text p ≡ turn total (left total) text p
     go piece.End s = refl
     go (piece.Gap m) s =
         let left_size = length-drop m text in
@@ -39,7 +43,8 @@ left-turn total (b ∷ rest) = go (piece_at (b ∷ rest)) (piece_says (b ∷ res
     go (piece.Word kind m) s =
         let left_size = length-drop m text in
         let some = word_some text kind m s in
-        ap (behind (word_at total text kind m)) (fuel total n (drop m text) (omega (arith, left_size, some.0)))
+        ap (behind (word_at total text kind m))
+        (fuel total n (drop m text) (omega (arith, left_size, some.0)))
     go (piece.Bad m) s = refl
     go piece.Open s = refl
 
@@ -70,18 +75,21 @@ spelled whole text before (w ∷ ws) fault is (start, rest, g, l, from, more) =
 
     left : drop w.from whole ≡ start
     left = ap (λ i. drop i whole) there
-        ∙ drop-front whole (before ++ skipped.0) start (length (before ++ skipped.0)) whole_start refl
+        ∙ drop-front whole (before ++ skipped.0) start
+        (length (before ++ skipped.0)) whole_start refl
 
     count : (w.from + length w.token.spelling) - w.from ≡ length w.token.spelling
     count = omega arith
 
-    taken : take ((w.from + length w.token.spelling) - w.from) (drop w.from whole) ≡ w.token.spelling
+    taken : take ((w.from + length w.token.spelling) - w.from) (drop w.from whole)
+        ≡ w.token.spelling
     taken = ap (λ m. take m (drop w.from whole)) count
         ∙ ap (λ z. take (length w.token.spelling) z) (left ∙ l.is)
         ∙ take-append_seam w.token.spelling rest
 
     word : w ≡ placed_in whole (span w)
-    word = ap (λ s. record { token = record { kind = w.token.kind; spelling = s }; from = w.from }) (sym taken)
+    word = ap (λ s. record { token = record { kind = w.token.kind; spelling = s }; from = w.from })
+        (sym taken)
 
 -- ---- the answers of a step, by the piece in front of what is left
 
@@ -95,14 +103,25 @@ module _ (total : ℕ) (text : List ℕ) (old : Left) (is : old ≡ left total t
   pub word_step : (kind : WordKind) (m : ℕ) (rest : List ℕ) → piece_at text ≡ piece.Word kind m
       → rest ≡ drop m text
       → (p : Placed)
-      × (◌≡◌ {A = Word} (record { kind = kind; from = total - length text; to = total - length text + m }) (span p))
+      × (◌≡◌ {A = Word} (record {
+        kind = kind;
+        from = total - length text;
+        to =
+            total - length text + m;
+      }) (span p))
       × (old ≡ behind p (left total rest))
   word_step kind m rest e left_is =
       let c : Cut (Spells kind) text m = subst (Says text) e (piece_says text) in
       let size : m ≡ length (take m text) = sym (ap length (cut_taken c) ∙ c.size) in (
         word_at total text kind m,
-        ap (λ n. record { kind = kind; from = total - length text; to = total - length text + n }) size,
-        turned (piece.Word kind m) e ∙ ap (λ z. behind (word_at total text kind m) (left total z)) (sym left_is),
+        ap (λ n. record {
+          kind = kind;
+          from = total - length text;
+          to =
+              total - length text + n;
+        }) size,
+        turned (piece.Word kind m) e
+            ∙ ap (λ z. behind (word_at total text kind m) (left total z)) (sym left_is),
       )
 
   pub end_step : piece_at text ≡ piece.End → (old.words ≡ []) × (old.fault ≡ None)
@@ -115,7 +134,8 @@ module _ (total : ℕ) (text : List ℕ) (old : Left) (is : old ≡ left total t
       let k = turned (piece.Bad m) e in
       let s : Says text (piece.Bad m) = subst (Says text) e (piece_says text) in
       let size = length-drop m text in
-      let at : place total (drop m text) ≡ total - length text + m = omega (arith, size, s.0, within) in
+      let at : place total (drop m text) ≡ total - length text + m =
+      omega (arith, size, s.0, within) in
       (ap (λ (l : Left). l.words) k, ap (λ (l : Left). l.fault) k ∙ ap (λ j. Some (BadByte j)) at)
 
   pub open_step : piece_at text ≡ piece.Open

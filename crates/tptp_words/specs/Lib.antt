@@ -1,6 +1,7 @@
+pub mod Bytes
 pub mod Text
-pub mod Layout
 pub mod Words
-pub mod Scanning
+pub mod Layout
 pub mod Steps
 pub mod Laws
+pub mod Scanning

@@ -4,7 +4,15 @@ use Rattle.std.specs.Prelude.{Option, Some, None, Result, Ok, Err}
 use Rattle.tptp_words.specs.declared.word.Word.{Word}
 use Rattle.tptp_words.specs.declared.word.WordError.{WordError}
 use Rattle.tptp_words.specs.Text.{Placed}
-use Rattle.tptp_words.specs.Scanning.{Left, behind}
+
+-- the words that are left, and then why there is no further one
+pub record Left : Type 0 where
+  pub words : List Placed
+  pub fault : Option WordError
+
+-- this word, and then what is left
+abbrev pub behind : Placed → Left → Left
+behind w l = record { words = w ∷ l.words; fault = l.fault }
 
 -- the kind of a placed word, the place of its first byte, and the place behind its last
 abbrev pub span : Placed → Word

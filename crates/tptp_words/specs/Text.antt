@@ -1,8 +1,13 @@
 -- A text is gaps and words, each word the longest spelling at its place.
 use Rattle.std.specs.Prelude.{◌≡◌, ℕ, ◌-◌, ◌≤◌, ◌⊎◌, Bool, true, false, not, ◌||◌, ◌&&◌, ◌==◌}
-use Rattle.std.specs.Prelude.{if◌then◌else◌, List, [], ◌∷◌, ◌++◌, map, length, slice_index, leb, codes}
-use Rattle.std.specs.Prelude.{Option, Some, None}
-use Rattle.std.specs.Char.{is_ascii_alphanumeric, is_ascii_lowercase, is_ascii_uppercase, is_ascii_digit}
+use Rattle.std.specs.Prelude.{if◌then◌else◌, List, [], ◌∷◌, ◌++◌, map, length, slice_index, leb}
+use Rattle.std.specs.Prelude.{codes, Option, Some, None}
+use Rattle.std.specs.Char.{is_ascii_alphanumeric, is_ascii_lowercase, is_ascii_uppercase}
+use Rattle.std.specs.Char.{is_ascii_digit}
+pub use Rattle.tptp_words.specs.Bytes.{line_feed, single_quote, double_quote, backslash, percent}
+pub use Rattle.tptp_words.specs.Bytes.{slash, star, dollar_sign, point}
+use Rattle.tptp_words.specs.Bytes.{space, tab, carriage_return, underscore, tilde}
+use Rattle.tptp_words.specs.Bytes.{capital_e, small_e}
 use Rattle.tptp_words.specs.declared.word.WordKind.{WordKind}
 use Rattle.tptp_words.specs.declared.word.WordKind.TheVariants.{Lower, Upper, Quoted, Distinct}
 use Rattle.tptp_words.specs.declared.word.WordKind.TheVariants.{Dollar, System, Number, Mark}
@@ -25,45 +30,20 @@ tokens placed = map (λ (p : Placed). p.token) placed
 
 -- ---- bytes
 
-abbrev pub line_feed : ℕ
-line_feed = 10
-
-abbrev pub single_quote : ℕ
-single_quote = 39
-
-abbrev pub double_quote : ℕ
-double_quote = 34
-
-abbrev pub backslash : ℕ
-backslash = 92
-
-abbrev pub percent : ℕ
-percent = 37
-
-abbrev pub slash : ℕ
-slash = 47
-
-abbrev pub star : ℕ
-star = 42
-
-abbrev pub dollar_sign : ℕ
-dollar_sign = 36
-
-abbrev pub point : ℕ
-point = 46
-
 -- a letter, a digit or `_`
 abbrev pub is_name : ℕ → Bool
-is_name b = is_ascii_alphanumeric b || b == 95
+is_name b = is_ascii_alphanumeric b || b == underscore
 
 -- a space, a tab, a carriage return or a line feed
 abbrev pub is_blank : ℕ → Bool
-is_blank b = b == 32 || b == 9 || b == 13 || b == line_feed
+is_blank b = b == space || b == tab || b == carriage_return || b == line_feed
 
--- a byte that may stand between quotes, if behind a backslash where it is a quote or a backslash
+-- a byte from the space to the tilde: it may stand between quotes, with a backslash before it where
+-- it is the quote or a backslash
 abbrev pub is_printable : ℕ → Bool
-is_printable b = leb 32 b && leb b 126
+is_printable b = leb space b && leb b tilde
 
+-- each byte passes the test
 abbrev pub AllPass : (ℕ → Bool) → List ℕ → Type 0
 AllPass p [] = Unit {0}
 AllPass p (b ∷ bs) = (p b ≡ true) × AllPass p bs
@@ -116,19 +96,31 @@ IsSign s = (s ≡ []) ⊎ (s ≡ codes "+") ⊎ (s ≡ codes "-")
 abbrev pub IsFraction : List ℕ → Type 0
 IsFraction s = (s ≡ []) ⊎ ((ds : List ℕ) × IsDigits ds × (s ≡ point ∷ ds))
 
--- nothing, or `E` or `e`, a sign or none, and digits
-abbrev pub IsExponent : List ℕ → Type 0
-IsExponent s =
-    (s ≡ [])
-    ⊎ ((e : ℕ) × (sign ds : List ℕ) × ((e ≡ 69) ⊎ (e ≡ 101)) × IsSign sign × IsDigits ds
-    × (s ≡ e ∷ (sign ++ ds)))
+abbrev pub IsE : ℕ → Type 0
+IsE b = (b ≡ capital_e) ⊎ (b ≡ small_e)
 
--- what follows a number's first digits: `/` and digits, or a fraction and an exponent, or nothing
+-- `E` or `e`, a sign or none, and digits
+abbrev pub IsPower : List ℕ → Type 0
+IsPower s =
+    (e : ℕ) × (sign ds : List ℕ) × IsE e × IsSign sign × IsDigits ds × (s ≡ e ∷ (sign ++ ds))
+
+-- nothing, or a power
+abbrev pub IsExponent : List ℕ → Type 0
+IsExponent s = (s ≡ []) ⊎ IsPower s
+
+-- `/` and digits
+abbrev pub IsRatio : List ℕ → Type 0
+IsRatio s = (ds : List ℕ) × IsDigits ds × (s ≡ slash ∷ ds)
+
+-- an optional fraction, and then an optional exponent
+abbrev pub IsDecimal : List ℕ → Type 0
+IsDecimal s =
+    (fraction exponent : List ℕ) × IsFraction fraction × IsExponent exponent
+    × (s ≡ fraction ++ exponent)
+
+-- what may follow a number's first digits
 abbrev pub IsTail : List ℕ → Type 0
-IsTail s =
-    ((ds : List ℕ) × IsDigits ds × (s ≡ slash ∷ ds))
-    ⊎ ((fraction exponent : List ℕ) × IsFraction fraction × IsExponent exponent
-    × (s ≡ fraction ++ exponent))
+IsTail s = IsRatio s ⊎ IsDecimal s
 
 -- the bytes spell a word of this kind
 abbrev pub Spells : WordKind → List ℕ → Type 0
@@ -160,6 +152,7 @@ NoWord start = (kind : WordKind) (s after : List ℕ) → start ≡ s ++ after �
 
 -- ---- gaps
 
+-- any byte but a line feed
 abbrev pub not_feed : ℕ → Bool
 not_feed b = not (b == line_feed)
 
@@ -181,6 +174,7 @@ pub data Gap : List ℕ → List ℕ → Type 0 where
 
 -- ---- errors
 
+-- one of the two quotes
 abbrev pub is_quote : ℕ → Bool
 is_quote b = b == single_quote || b == double_quote
 
@@ -214,19 +208,29 @@ IsForbidden quote content (b ∷ after) =
     ⊎ ((b ≡ backslash) × NoEscape quote after)
     ⊎ ((b ≡ single_quote) × (quote ≡ single_quote) × (content ≡ []))
 
--- from `start`, where a word should begin, the first byte that can neither begin nor continue one
--- is the first of `rest`
-abbrev pub IsBadByte : List ℕ → List ℕ → Type 0
-IsBadByte start rest =
-    ((start ≡ rest) × IsStray start)
-    ⊎ ((quote : ℕ) × (content : List ℕ) × IsOpened quote content start rest
-    × IsForbidden quote content rest)
+-- from the quote that `start` begins with, the first byte that may not stand there is that of `rest`
+abbrev pub IsBadInQuotes : List ℕ → List ℕ → Type 0
+IsBadInQuotes start rest =
+    (quote : ℕ) × (content : List ℕ) × IsOpened quote content start rest
+    × IsForbidden quote content rest
 
--- a block comment or a quoted text is opened here, and the text ends before it does
+-- from `start`, where a word should begin, the first byte that can neither begin nor continue one
+-- is that of `rest`
+abbrev pub IsBadByte : List ℕ → List ℕ → Type 0
+IsBadByte start rest = ((start ≡ rest) × IsStray start) ⊎ IsBadInQuotes start rest
+
+-- a block comment begins here, and the text ends before it does
+abbrev pub IsOpenComment : List ℕ → Type 0
+IsOpenComment start =
+    (body : List ℕ) × (start ≡ slash ∷ star ∷ body) × (has_close body ≡ false)
+
+-- quoted text begins here, and the text ends before it does
+abbrev pub IsOpenQuote : List ℕ → Type 0
+IsOpenQuote start = (quote : ℕ) × (content : List ℕ) × IsOpened quote content start []
+
+-- what begins here has no end
 abbrev pub IsUnclosed : List ℕ → Type 0
-IsUnclosed start =
-    ((body : List ℕ) × (start ≡ slash ∷ star ∷ body) × (has_close body ≡ false))
-    ⊎ ((quote : ℕ) × (content : List ℕ) × IsOpened quote content start [])
+IsUnclosed start = IsOpenComment start ⊎ IsOpenQuote start
 
 -- ---- texts
 

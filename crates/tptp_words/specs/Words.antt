@@ -15,6 +15,7 @@ same [] (b ∷ bs) = false
 same (a ∷ as') [] = false
 same (a ∷ as') (b ∷ bs) = if a == b then same as' bs else false
 
+-- something exactly where the test passes
 abbrev pub only : Bool → Option (Unit {0})
 only true = Some tt
 only false = None
@@ -37,6 +38,7 @@ content (quote ∷ bs) = unescaped quote false bs
 
 -- ---- names and variables
 
+-- the name that a word of this kind and spelling stands for
 abbrev pub name_of : WordKind → List ℕ → Option (List ℕ)
 name_of Lower s = Some s
 name_of Quoted s = Some (content s)
@@ -46,6 +48,7 @@ name_of _ s = None
 abbrev pub name : Token → Option (List ℕ)
 name w = name_of w.kind w.spelling
 
+-- the variable that a word of this kind and spelling stands for
 abbrev pub variable_of : WordKind → List ℕ → Option (List ℕ)
 variable_of Upper s = Some s
 variable_of _ s = None
@@ -54,6 +57,7 @@ variable_of _ s = None
 abbrev pub variable : Token → Option (List ℕ)
 variable w = variable_of w.kind w.spelling
 
+-- the digits that a word of this kind and spelling is
 abbrev pub digits_of : WordKind → List ℕ → Option (List ℕ)
 digits_of Number s = if list_all is_ascii_digit s then Some s else None
 digits_of _ s = None
@@ -64,6 +68,7 @@ digits w = digits_of w.kind w.spelling
 
 -- ---- fixed words
 
+-- whether a word of this kind and spelling is the mark
 abbrev pub mark_of : List ℕ → WordKind → List ℕ → Option (Unit {0})
 mark_of m Mark s = only (same s m)
 mark_of m _ s = None
@@ -72,6 +77,7 @@ mark_of m _ s = None
 abbrev pub mark : List ℕ → Token → Option (Unit {0})
 mark m w = mark_of m w.kind w.spelling
 
+-- whether a word of this kind and spelling is the Lower word
 abbrev pub keyword_of : List ℕ → WordKind → List ℕ → Option (Unit {0})
 keyword_of m Lower s = only (same s m)
 keyword_of m _ s = None
@@ -80,6 +86,7 @@ keyword_of m _ s = None
 abbrev pub keyword : List ℕ → Token → Option (Unit {0})
 keyword m w = keyword_of m w.kind w.spelling
 
+-- whether a word of this kind and spelling is the Dollar word
 abbrev pub dollar_of : List ℕ → WordKind → List ℕ → Option (Unit {0})
 dollar_of m Dollar s = only (same s m)
 dollar_of m _ s = None

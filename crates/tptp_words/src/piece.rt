@@ -24,6 +24,7 @@ pub enum Piece {
     Open,
 }
 
+/// The length of the longest mark that begins with these three bytes, or 0 where none does.
 fn mark_len(first: u8, second: u8, third: u8) -> usize
     ensures exact { result ≡ scanning.mark_len first second third }
 {
@@ -54,6 +55,7 @@ fn mark_len(first: u8, second: u8, third: u8) -> usize
     }
 }
 
+/// The mark at the front, or the byte that begins none.
 #[tactic(auto, unfolding(crate::specs::Scanning::mark_at))]
 fn mark(text: &[u8]) -> Piece
     ensures exact { result ≡ scanning.mark_at text.now }
@@ -74,6 +76,7 @@ fn name_len(text: &[u8]) -> usize
         .count()
 }
 
+/// How many bytes stand before the next line feed, or before the end.
 fn line_len(text: &[u8]) -> usize
     ensures exact { result ≡ prefix_len lexical.not_feed text.now }
     ensures within { result ≤ length text.now }
@@ -81,6 +84,7 @@ fn line_len(text: &[u8]) -> usize
     text.iter().take_while(|byte| **byte != b'\n').count()
 }
 
+/// A word that begins with a dollar, from behind that dollar on.
 fn dollar(rest: &[u8]) -> Piece
     ensures exact { result ≡ scanning.dollar_at rest.now }
 {

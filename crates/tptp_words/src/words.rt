@@ -9,7 +9,9 @@ use crate::piece::{Piece, piece_at};
 use crate::word::{Word, WordError};
 use std::marker::Model;
 
-/// The words of a text that are left. It takes no memory besides the text that it borrows.
+/// The words of a text that are left, in the order of the text. Time is linear in its bytes, and no
+/// memory is taken.
+#[derive(Drop)]
 pub struct Words<'a> {
     text: &'a [u8],
     rest: &'a [u8],
@@ -27,7 +29,7 @@ impl<'a> Model for Words<'a> {
 }
 
 impl<'a> Words<'a> {
-    /// All words of the text.
+    /// All words of the text, as the tokens of the TPTP language's grammar.
     pub fn new(text: &'a [u8]) -> Words<'a>
         ensures exact { IsText (length text.now) text.now result.words result.fault }
         ensures spelled { AllSpelled text.now result.words }

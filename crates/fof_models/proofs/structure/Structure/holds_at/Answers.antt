@@ -1,6 +1,5 @@
-use Rattle.std.proofs.Common.{arith, length, ap, sym, ◌∙◌}
-use Rattle.std.proofs.lemmas.List.{length-map}
-use Rattle.fof_models.proofs.Places.{placed_within, symbol_within, table_length, entry_is}
+use Rattle.std.proofs.Common.{arith, length, ap}
+use Rattle.fof_models.proofs.Places.{placed_within, symbol_within, table_length}
 use Rattle.fof_models.proofs.structure.Structure.holds_at.Goals as goal
 
 pub table-table-requires : goal.table-table-requires
@@ -12,12 +11,18 @@ place_in-at-requires-clause-entries c =
 
 pub offset_bounds-table-at : goal.offset_bounds-table-at
 offset_bounds-table-at c =
-    omega (arith, placed_within _ _ _ _ c.place_in-at.ensures,
-        table_length _ _ _ _ _ c.requires.ready.well_formed c.requires.symbol,
-        ap length c.table-table.ensures)
+    omega (
+      arith,
+      placed_within _ _ _ _ c.place_in-at.ensures,
+      table_length _ _ _ _ _ c.requires.ready.well_formed c.requires.symbol,
+      ap length c.table-table.ensures,
+    )
 
 pub bounds-table-at : goal.bounds-table-at
 bounds-table-at c =
-    omega (arith, placed_within _ _ _ _ c.place_in-at.ensures,
-        table_length _ _ _ _ _ c.requires.ready.well_formed c.requires.symbol,
-        ap length c.table-table.ensures)
+    omega (
+      arith,
+      placed_within _ _ _ _ c.place_in-at.ensures,
+      table_length _ _ _ _ _ c.requires.ready.well_formed c.requires.symbol,
+      ap length c.table-table.ensures,
+    )

@@ -8,4 +8,5 @@ returns-clause-exact c = is_text (length c.args.text.now) c.args.text.now
 
 pub returns-clause-spelled : goal.returns-clause-spelled
 returns-clause-spelled c =
-    spelled c.args.text.now c.args.text.now [] _ _ refl (is_text (length c.args.text.now) c.args.text.now)
+    spelled c.args.text.now c.args.text.now [] _ _ refl
+    (is_text (length c.args.text.now) c.args.text.now)

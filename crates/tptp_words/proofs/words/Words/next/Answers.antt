@@ -1,6 +1,7 @@
 use Rattle.std.proofs.Common.{◌<◌, ◌^◌, length, sym, ◌∙◌, ap, subst, arith}
 use Rattle.tptp_words.specs.Scanning.{left}
-use Rattle.tptp_words.proofs.Steps.{gap_step, word_step, end_step, bad_step, open_step, gap_smaller, word_within, bad_within}
+use Rattle.tptp_words.proofs.Steps.{gap_step, word_step, end_step, bad_step, open_step, gap_smaller}
+use Rattle.tptp_words.proofs.Steps.{word_within, bad_within}
 use Rattle.tptp_words.proofs.words.Words.next.Goals as goal
 
 pub loop-count-smaller : goal.loop-count-smaller

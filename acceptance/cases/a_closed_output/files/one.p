@@ -1,0 +1,1 @@
+fof(one,axiom,![X,Y]: X = Y).

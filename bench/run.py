@@ -1,0 +1,148 @@
+#!/usr/bin/env python3
+"""Measures the built program: bench/run.py [reading|typing|encoding ..] [--most BYTES]
+
+Each text of a family is made at doubling sizes. For each the table gives the time per byte of input, the peak memory per
+byte, and the ratio to the time of `wc -w` on the same file, the least of three runs in one sitting. A text ends in an
+entry that is refused at the stage behind the one that is measured, so that only the stages up to it are run:
+  reading    the last word is refused
+  typing     a second conjecture is refused
+  encoding   nothing is refused, and the output is thrown away
+Last come the greatest over the least time per byte of each family from 1 MiB on, and the targets that are missed."""
+import argparse
+import os
+import resource
+import subprocess
+import sys
+import tempfile
+import time
+
+HERE = os.path.dirname(os.path.abspath(__file__))
+TFENC = os.path.join(os.path.dirname(HERE), 'tfenc')
+MOST = 16777216
+
+BAD_WORD = 'fof(last,axiom,p & .\n'
+TWO_CONJECTURES = 'fof(a,conjecture,p).\nfof(b,conjecture,p).\n'
+
+
+def typed_lists(size):
+    """The list problem with as many types, constants and predicates as fit."""
+    lines = [
+        'tff(list,type,list: $tType > $tType).',
+        'tff(nil,type,nil: !>[A: $tType]: list(A)).',
+        'tff(cons,type,cons: !>[A: $tType]: ((A * list(A)) > list(A))).',
+    ]
+    length = sum(len(line) + 1 for line in lines)
+    i = 0
+    while length < size and i < 21000:
+        more = [
+            f'tff(t{i},type,t{i}: $tType).',
+            f'tff(c{i},type,c{i}: t{i}).',
+            f'tff(p{i},type,p{i}: !>[A: $tType]: ((A * list(A)) > $o)).',
+            f'tff(a{i},axiom,![A: $tType,X: A,L: list(A)]: (p{i}(A,X,L) => p{i}(A,X,cons(A,X,L)))).',
+            f'tff(b{i},axiom,p{i}(t{i},c{i},nil(t{i}))).',
+        ]
+        lines += more
+        length += sum(len(line) + 1 for line in more)
+        i += 1
+    while length < size:
+        line = f'tff(e,axiom,![A: $tType,X: A,L: list(A)]: (p0(A,X,L) => p1(A,X,cons(A,X,L)))).'
+        lines.append(line)
+        length += len(line) + 1
+    return '\n'.join(lines) + '\n'
+
+
+def axioms(size):
+    line = 'fof(monotone,axiom,![X,Y]: (less(X,succ(Y)) => (even(X) | ~ odd(Y,plus(X,Y))))).\n'
+    return line * (size // len(line))
+
+
+def deep(size):
+    unit = 'fof(d,axiom,' + '~ (' * 150 + 'p(X) & q' + ')' * 150 + ').\n'
+    unit = unit.replace('p(X)', 'p')
+    return unit * (size // len(unit))
+
+
+def chain(size):
+    return 'fof(c,axiom,' + 'p & ' * (size // 4) + 'p).\n'
+
+
+def wide(size):
+    return 'fof(w,axiom,p(' + 'f(a),' * (size // 5) + 'a)).\n'
+
+
+def comment(size):
+    return '/* ' + 'x ' * (size // 2) + '*/\n'
+
+
+def spaces(size):
+    return ' ' * size
+
+
+FAMILIES = {
+    'reading': {
+        'typed lists': typed_lists, 'chain': chain, 'list': wide, 'comment': comment, 'spaces': spaces,
+    },
+    'typing': {'typed lists': typed_lists, 'axioms': axioms},
+    'encoding': {'axioms': axioms, 'deep': deep, 'wide': wide},
+}
+ENDS = {'reading': BAD_WORD, 'typing': TWO_CONJECTURES, 'encoding': ''}
+STATUSES = {'reading': 1, 'typing': 1, 'encoding': 0}
+MEMORY = {'reading': 64, 'typing': None, 'encoding': 200}
+MOST_OF_WC = {'reading': 25}
+
+
+def measured(words):
+    """The time in seconds, the peak memory in bytes and the status of a command."""
+    with open(os.devnull, 'wb') as null:
+        begin = time.perf_counter()
+        child = subprocess.Popen(words, stdin=subprocess.DEVNULL, stdout=null, stderr=null)
+        _, status, usage = os.wait4(child.pid, 0)
+        return time.perf_counter() - begin, usage.ru_maxrss * 1024, os.waitstatus_to_exitcode(status)
+
+
+def best(words):
+    runs = [measured(words) for _ in range(3)]
+    return min(run[0] for run in runs), max(run[1] for run in runs), runs[0][2]
+
+
+def main():
+    parser = argparse.ArgumentParser(description=__doc__, formatter_class=argparse.RawDescriptionHelpFormatter)
+    parser.add_argument('stages', nargs='*', default=[])
+    parser.add_argument('--most', type=int, default=MOST)
+    options = parser.parse_args()
+    missed = []
+    base = measured([TFENC])[1]
+    print(f'{"stage":9} {"family":12} {"bytes":>10} {"ns/byte":>9} {"memory/byte":>12} {"times wc -w":>12}')
+    for stage in options.stages or FAMILIES:
+        for family, make in FAMILIES[stage].items():
+            times = []
+            size = min(options.most, MOST) // 32
+            while size <= options.most:
+                end = ENDS[stage]
+                if stage == 'encoding' and family == 'wide' and size > MOST // 4:
+                    break
+                text = make(size - len(end) - 200) + end
+                with tempfile.NamedTemporaryFile('w', suffix='.p') as file:
+                    file.write(text)
+                    file.flush()
+                    seconds, memory, status = best([TFENC, 'encode', file.name, '--scheme', 'erase'])
+                    words, _, _ = best(['wc', '-w', file.name])
+                if status != STATUSES[stage]:
+                    missed.append(f'{stage} {family} {len(text)}: status {status}')
+                per_byte = seconds / len(text)
+                room = max(0, memory - base) / len(text)
+                if len(text) >= 1 << 20:
+                    times.append(per_byte)
+                    if MEMORY[stage] and room > MEMORY[stage]:
+                        missed.append(f'{stage} {family} {len(text)}: {room:.1f} bytes of memory per byte')
+                    if stage in MOST_OF_WC and seconds > MOST_OF_WC[stage] * words:
+                        missed.append(f'{stage} {family} {len(text)}: {seconds / words:.1f} times wc -w')
+                print(f'{stage:9} {family:12} {len(text):10} {per_byte * 1e9:9.1f} {room:12.1f} {seconds / words:12.1f}')
+                sys.stdout.flush()
+                size *= 2
+            if times and max(times) > 2 * min(times):
+                missed.append(f'{stage} {family}: {max(times) / min(times):.1f} times the least time per byte')
+    print('missed: ' + ('; '.join(missed) if missed else 'none'))
+
+
+main()

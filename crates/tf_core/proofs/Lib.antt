@@ -1,0 +1,9 @@
+pub mod Types
+pub mod Truth
+pub mod Substitution
+pub mod Counts
+pub mod TypingTests
+pub mod Induction
+pub mod Instances
+pub mod Built
+pub mod Quantified

@@ -1,0 +1,37 @@
+ghost use Rattle.tf_core.specs.Laws.{UniversalIsTrueOfEach, ExistentialIsTrueOfSome, EntriesStandInBlocks, InstancesHaveValues, ShiftedTermsHaveValues, SubstitutionKeepsTruth};
+
+/// A universal formula is true exactly where its body is true of each element of the type's member.
+pub fn universal_is_true_of_each()
+    ensures { UniversalIsTrueOfEach }
+{
+}
+
+/// An existential formula is true exactly where its body is true of some element.
+pub fn existential_is_true_of_some()
+    ensures { ExistentialIsTrueOfSome }
+{
+}
+
+/// An entry of a tuple's block stands behind the blocks of all earlier tuples.
+pub fn entries_stand_in_blocks()
+    ensures { EntriesStandInBlocks }
+{
+}
+
+/// The value of an instance of a type is the type's value at the values of the instances.
+pub fn instances_have_values()
+    ensures { InstancesHaveValues }
+{
+}
+
+/// The value of a shifted term is the term's, with the elements of the new variables put in.
+pub fn shifted_terms_have_values()
+    ensures { ShiftedTermsHaveValues }
+{
+}
+
+/// A formula with its types replaced is as true as the formula is at the values of the types.
+pub fn substitution_keeps_truth()
+    ensures { SubstitutionKeepsTruth }
+{
+}
