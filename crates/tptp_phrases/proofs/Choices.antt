@@ -1,18 +1,20 @@
 -- How what is said of outcomes goes through a choice by the first word.
 use Rattle.std.proofs.Common.{◌≡◌, ℕ, ◌≤◌, ◌⊎◌, inl, inr, List, [], ◌∷◌, Bool, true, false, length}
-use Rattle.std.proofs.Common.{Option, Some, None, Result, Ok, Err, refl, subst, if◌then◌else◌}
+use Rattle.std.proofs.Common.{Option, Some, None, Result, Ok, Err, refl, sym, subst, ◌∙◌, if◌then◌else◌}
 use Rattle.tptp_words.specs.Text.{Token}
 use Rattle.tptp_phrases.specs.Phrase.{Phrase, Variant, empty, stray, ◌>>=◌, ◌>>◌, ◌or◌, word}
-use Rattle.tptp_phrases.specs.Readers.{Source, seen, Outcome, Reader, goes_on, choose, give, seq}
+use Rattle.tptp_words.specs.Scanning.{Left}
+use Rattle.tptp_phrases.specs.Readers.{seen, Outcome, Reader, goes_on, choose, give, seq}
 use Rattle.tptp_phrases.specs.Readers.{takes, take_word, refuse_stray}
+use Rattle.tptp_phrases.specs.Readers.{no_strays}
 use Rattle.tptp_phrases.proofs.Outcomes.{Stops, Read, Refused, Deeper, Parses, Reading, Dead}
-use Rattle.tptp_phrases.proofs.Outcomes.{Starts, Apart, Inside, StraysApart, no_strays, StrayAt}
-use Rattle.tptp_phrases.proofs.Outcomes.{IsLater, left_of, never}
+use Rattle.tptp_phrases.proofs.Outcomes.{Starts, Apart, Inside, StraysApart, StrayAt}
+use Rattle.tptp_phrases.proofs.Outcomes.{IsLater, left_of, never, Within, Follows, First}
 use Rattle.tptp_phrases.proofs.Sequences.{fails_map, parses_empty, not_later, reads_then}
 use Rattle.tptp_phrases.proofs.SingleWords.{reads_word, reads_stray}
 use Rattle.tptp_phrases.proofs.Firsts.{dead_starts, dead_empty, dead_or, no_stray_there, goes_apart}
 use Rattle.tptp_phrases.proofs.Firsts.{goes_inside, NoStray, starts_bind, starts_word}
-use Rattle.tptp_phrases.proofs.Firsts.{follows_never, follows_starts}
+use Rattle.tptp_phrases.proofs.Firsts.{follows_never, follows_starts, stops_within, stops_apart}
 
 -- ---- one alternative where nothing of the other stands
 
@@ -117,12 +119,12 @@ if_true P x y true f g = f refl
 if_true P x y false f g = g refl
 
 pub chosen : {K A : Type 0} (P : Outcome K A → Type 0) (t : Token → Bool) (r q : Reader K A)
-    (s : Source) → (goes_on t (seen s) ≡ true → P (r s)) → (goes_on t (seen s) ≡ false → P (q s))
+    (s : Left) → (goes_on t (seen s) ≡ true → P (r s)) → (goes_on t (seen s) ≡ false → P (q s))
     → P (choose t r q s)
 unfolding choose
 chosen P t r q s f g = if_true P (r s) (q s) (goes_on t (seen s)) f g
 
-pub later_chosen : {K A : Type 0} (t : Token → Bool) (r q : Reader K A) (s : Source)
+pub later_chosen : {K A : Type 0} (t : Token → Bool) (r q : Reader K A) (s : Left)
     → IsLater s (left_of (r s)) → IsLater s (left_of (q s)) → IsLater s (left_of (choose t r q s))
 later_chosen t r q s h k = chosen (λ o. IsLater s (left_of o)) t r q s (λ _. h) (λ _. k)
 
@@ -241,3 +243,71 @@ pub reads_to_word : {K A B C : Type 0} (f : Token → Option B) {p : Variant K �
 reads_to_word f g {c = c} {e = e} a h k =
     reads_then h
     (λ x. follows_starts _ (takes f) c e (starts_word_then f (λ i. g i x) no_strays) a) k
+
+-- ---- what may go on
+
+-- more words may go on
+pub reads_within : {K A : Type 0} {p : Variant K → Phrase A} {c e : Token → Bool} {b : ℕ}
+    {r : Reader K A} → Within c e → Reading p c b r → Reading p e b r
+reads_within {K} {A} {p = p} {c = c} {e = e} {b = b} {r = r} w h =
+    record { at = λ s. go (seen s) (r s) (h.at s); later = h.later }
+  where
+    refused : (ws rest : List Token) (N : Variant K → Type 0) → Refused p c b N ws rest
+        → Refused p e b N ws rest
+    refused ws rest N k = record {
+      begun = k.begun;
+      inside = k.inside;
+      within = k.within;
+      whole = k.whole;
+      none = λ i x v n d s. k.none i x v n d (stops_within c e w x s);
+    }
+
+    go : (ws : List Token) (o : Outcome K A) → Parses p c b ws o → Parses p e b ws o
+    go ws (Ok x) k = record {
+      derives = k.derives;
+      inside = k.inside;
+      within = k.within;
+      whole = k.whole;
+      only = λ i q v d s. k.only i q v d (stops_within c e w q s);
+    }
+    go ws (Err x) k =
+        fails_map p p c e b ws ws (seen x.1) (λ N z. refused ws (seen x.1) N z) (λ V z. z) x.0 k
+
+-- nothing or what begins with words of t, and then what begins with words of u
+pub follows_optional : {K A B : Type 0} (v : A) (p : Variant K → Phrase A)
+    (g : Variant K → A → Phrase B) (t u c e : Token → Bool) → Starts p t no_strays
+    → ((x : A) → Starts (λ i. g i x) u no_strays) → Apart t c → Apart u c
+    → Follows (λ i. (empty v or p i) >>= g i) c e
+unfolding empty ◌or◌ ◌>>=◌
+follows_optional {K} {A} {B} v p g t u c e h k a d =
+    record { begun = begun; whole = whole; over = λ i m r x j s. front i m r x j }
+  where
+    first : (i : Variant K) (m r : List Token) → First t no_strays i m r → (m ≡ r) ⊎ Stops c m
+    first i m r (inl j) = inl j
+    first i m r (inr (inl j)) = inr (stops_apart t c a m j)
+    first i m r (inr (inr s)) = absurd (no_stray_there m i s)
+
+    second : (i : Variant K) (m n r : List Token) → m ≡ n → First u no_strays i n r
+        → (m ≡ r) ⊎ Stops c m
+    second i m n r e (inl j) = inl (e ∙ j)
+    second i m n r e (inr (inl j)) =
+        inr (stops_apart u c d m (subst (λ z. goes_on u z ≡ true) (sym e) j))
+    second i m n r e (inr (inr s)) = absurd (no_stray_there n i s)
+
+    begun : (i : Variant K) (m r : List Token) → ((empty v or p i) >>= g i).begins m r
+        → (m ≡ r) ⊎ Stops c m
+    begun i m r (inl (inl j)) = inl j
+    begun i m r (inl (inr j)) = first i m r (h.begun i m r j)
+    begun i m r (inr (n, x, inl j, b)) = second i m n r j.0 ((k x).begun i n r b)
+    begun i m r (inr (n, x, inr j, b)) = inr (stops_apart t c a m (h.whole i m n x j))
+
+    front : (i : Variant K) (m r : List Token) (y : B) → ((empty v or p i) >>= g i).derives m r y
+        → Stops c m
+    front i m r y (n, x, inl j, b) =
+        stops_apart u c d m
+        (subst (λ z. goes_on u z ≡ true) (sym j.0) ((k x).whole i n r y b))
+    front i m r y (n, x, inr j, b) = stops_apart t c a m (h.whole i m n x j)
+
+    whole : (i : Variant K) (m r : List Token) (y : B) → ((empty v or p i) >>= g i).derives m r y
+        → (m ≡ r) ⊎ Stops c m
+    whole i m r y j = inr (front i m r y j)

@@ -4,8 +4,9 @@ use Rattle.std.proofs.Common.{false, ◌||◌, Option, Some, None, is_some, refl
 use Rattle.tptp_words.specs.Text.{Token}
 use Rattle.tptp_phrases.specs.Phrase.{Phrase, Variant, empty, word, stray, ◌>>=◌, ◌or◌}
 use Rattle.tptp_phrases.specs.Readers.{goes_on, takes}
+use Rattle.tptp_phrases.specs.Readers.{no_strays}
 use Rattle.tptp_phrases.proofs.Outcomes.{Stops, never, stops_never, Starts, Opens, Dead, Follows}
-use Rattle.tptp_phrases.proofs.Outcomes.{Apart, Within, Inside, StrayAt, no_strays, First}
+use Rattle.tptp_phrases.proofs.Outcomes.{Apart, Within, Inside, StrayAt, First}
 
 -- ---- tests
 

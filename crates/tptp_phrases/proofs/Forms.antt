@@ -4,7 +4,8 @@ use Rattle.std.proofs.Common.{Option, Some}
 use Rattle.std.proofs.Common.{Err, refl, sym, ap, subst, ◌∙◌, ◌++◌, append_assoc, append-nil}
 use Rattle.tptp_words.specs.Text.{Token}
 use Rattle.tptp_phrases.specs.Phrase.{Phrase, Variant, empty, ◌>>=◌, ◌>>◌, ◌or◌, many}
-use Rattle.tptp_phrases.specs.Readers.{Source, seen, Outcome, Reader, goes_on}
+use Rattle.tptp_words.specs.Scanning.{Left}
+use Rattle.tptp_phrases.specs.Readers.{seen, Outcome, Reader, goes_on}
 use Rattle.tptp_phrases.proofs.Outcomes.{Read, Refused, Deeper, Parses, Reading, Starts, Opens}
 use Rattle.tptp_phrases.proofs.Sequences.{fails_map}
 
@@ -131,6 +132,24 @@ or_assoc p q r = record {
   ];
   begins_back = λ ws z d. elim d [
     inl i ↦ elim i [ inl j ↦ inl j | inr j ↦ inr (inl j) ] | inr i ↦ inr (inr i)
+  ];
+}
+
+-- the first two of three alternatives, the other way round
+pub or_swap : {A : Type 0} (p q r : Phrase A) → Same (p or (q or r)) (q or (p or r))
+unfolding ◌or◌
+or_swap p q r = record {
+  derives = λ ws z x d. elim d [
+    inl i ↦ inr (inl i) | inr i ↦ elim i [ inl j ↦ inl j | inr j ↦ inr (inr j) ]
+  ];
+  derives_back = λ ws z x d. elim d [
+    inl i ↦ inr (inl i) | inr i ↦ elim i [ inl j ↦ inl j | inr j ↦ inr (inr j) ]
+  ];
+  begins = λ ws z d. elim d [
+    inl i ↦ inr (inl i) | inr i ↦ elim i [ inl j ↦ inl j | inr j ↦ inr (inr j) ]
+  ];
+  begins_back = λ ws z d. elim d [
+    inl i ↦ inr (inl i) | inr i ↦ elim i [ inl j ↦ inl j | inr j ↦ inr (inr j) ]
   ];
 }
 
@@ -280,3 +299,25 @@ same_spread {B = B} p q f =
     begins_back ws r (inl (inr (m, x, d, i))) = inr (m, x, inl d, i)
     begins_back ws r (inr (inl i)) = inl (inr i)
     begins_back ws r (inr (inr (m, x, d, i))) = inr (m, x, inr d, i)
+
+-- no words in front of a phrase that no words begin
+pub same_given : {A B : Type 0} (v : A) (f : A → Phrase B) → ((ws : List Token) → (f v).begins ws ws)
+    → Same (empty v >>= f) (f v)
+unfolding empty ◌>>=◌
+same_given {A} {B} v f h =
+    record { derives = to; derives_back = from; begins = begins; begins_back = begins_back }
+  where
+    to : (ws r : List Token) (x : B) → (empty v >>= f).derives ws r x → (f v).derives ws r x
+    to ws r x (m, a, d, i) =
+        subst (λ z. (f v).derives z r x) (sym d.0) (subst (λ z. (f z).derives m r x) d.1 i)
+
+    from : (ws r : List Token) (x : B) → (f v).derives ws r x → (empty v >>= f).derives ws r x
+    from ws r x i = (ws, v, (refl, refl), i)
+
+    begins : (ws r : List Token) → (empty v >>= f).begins ws r → (f v).begins ws r
+    begins ws r (inl e) = subst (λ z. (f v).begins ws z) e (h ws)
+    begins ws r (inr (m, a, d, i)) =
+        subst (λ z. (f v).begins z r) (sym d.0) (subst (λ z. (f z).begins m r) d.1 i)
+
+    begins_back : (ws r : List Token) → (f v).begins ws r → (empty v >>= f).begins ws r
+    begins_back ws r i = inr (ws, v, (refl, refl), i)

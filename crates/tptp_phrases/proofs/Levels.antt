@@ -5,7 +5,8 @@ use Rattle.std.proofs.Common.{arith, ◌∙◌, if◌then◌else◌}
 use Rattle.std.proofs.Math.Nat.{le_refl, le_of_eq}
 use Rattle.tptp_words.specs.Text.{Token}
 use Rattle.tptp_phrases.specs.Phrase.{Phrase, Variant, nothing, Rule, levels, deeper, nested}
-use Rattle.tptp_phrases.specs.Readers.{Source, seen, Cause, Syntax, TooDeep, Stray, Outcome, Reader}
+use Rattle.tptp_words.specs.Scanning.{Left}
+use Rattle.tptp_phrases.specs.Readers.{seen, Cause, Syntax, TooDeep, Stray, Outcome, Reader}
 use Rattle.tptp_phrases.specs.Readers.{goes_on, refuse, at_limit, limit_cause, stray_cause, cause_of}
 use Rattle.tptp_phrases.specs.Readers.{RuleReader, levels_at}
 use Rattle.tptp_phrases.proofs.Outcomes.{Stops, Read, Refused, Deeper, Any, At, Takes, Leaves, Fails}

@@ -7,3 +7,4 @@ pub mod Choices
 pub mod Repetition
 pub mod Levels
 pub mod Limits
+pub mod Balance

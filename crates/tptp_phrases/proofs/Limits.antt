@@ -5,7 +5,8 @@ use Rattle.std.proofs.Common.{arith, ◌∙◌, if◌then◌else◌}
 use Rattle.std.proofs.Math.Nat.{le_refl, le_of_eq}
 use Rattle.tptp_words.specs.Text.{Token}
 use Rattle.tptp_phrases.specs.Phrase.{Phrase, Variant, nothing, Rule, levels, deeper, nested}
-use Rattle.tptp_phrases.specs.Readers.{Source, seen, Cause, Syntax, TooDeep, Stray, Outcome, Reader}
+use Rattle.tptp_words.specs.Scanning.{Left}
+use Rattle.tptp_phrases.specs.Readers.{seen, Cause, Syntax, TooDeep, Stray, Outcome, Reader}
 use Rattle.tptp_phrases.specs.Readers.{goes_on, refuse, at_limit, limit_cause, stray_cause, cause_of}
 use Rattle.tptp_phrases.specs.Readers.{RuleReader, levels_at}
 use Rattle.tptp_phrases.proofs.Outcomes.{Stops, Read, Refused, Deeper, Any, At, Takes, Leaves, Fails}
@@ -58,7 +59,7 @@ module _ {K A : Type 0} (u : Variant K → Phrase A) (t : Token → Bool) (kind 
       ])
       (λ i r x n d. let k = (starts_below u t kind starts).whole i ws r x d in cc (e, k))
 
-  astray : (s : Source) (w : Token) (ws : List Token) → seen s ≡ w ∷ ws → t w ≡ false
+  astray : (s : Left) (w : Token) (ws : List Token) → seen s ≡ w ∷ ws → t w ≡ false
       → (o : Option K) → kind w ≡ o → Parses (below u) c 0 (seen s) (Err (cause_of o, s))
   astray s w ws is e None k =
       refused_by Any (seen s) (rw is e)
@@ -76,7 +77,7 @@ module _ {K A : Type 0} (u : Variant K → Phrase A) (t : Token → Bool) (kind 
     },
   )
 
-  limit_word : (s : Source) (w : Token) (ws : List Token) → seen s ≡ w ∷ ws → (o : Bool) → t w ≡ o
+  limit_word : (s : Left) (w : Token) (ws : List Token) → seen s ≡ w ∷ ws → (o : Bool) → t w ≡ o
       → Parses (below u) c 0 (seen s) (Err (if o then TooDeep else cause_of (kind w), s))
   limit_word s w ws is true e = (
     refused_at_zero (seen s),
@@ -91,7 +92,7 @@ module _ {K A : Type 0} (u : Variant K → Phrase A) (t : Token → Bool) (kind 
   )
   limit_word s w ws is false e = astray s w ws is e (kind w) refl
 
-  limit_words : (s : Source) (ws : List Token) → seen s ≡ ws
+  limit_words : (s : Left) (ws : List Token) → seen s ≡ ws
       → Parses (below u) c 0 (seen s) (Err (limit_cause t kind ws, s))
   limit_words s [] is =
       refused_by Any (seen s) (rw is refl) (λ i n a. let j = a.is in cc (is, j))

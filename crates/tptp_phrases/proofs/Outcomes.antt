@@ -5,7 +5,8 @@ use Rattle.std.proofs.Common.{false, length, Option, Some, None, Result, Ok, Err
 use Rattle.std.specs.Prelude.{◌≢◌}
 use Rattle.tptp_words.specs.Text.{Token, Placed}
 use Rattle.tptp_phrases.specs.Phrase.{Phrase, Variant}
-use Rattle.tptp_phrases.specs.Readers.{Source, seen, Cause, Syntax, TooDeep, Stray, Outcome, Reader}
+use Rattle.tptp_words.specs.Scanning.{Left}
+use Rattle.tptp_phrases.specs.Readers.{seen, Cause, Syntax, TooDeep, Stray, Outcome, Reader}
 use Rattle.tptp_phrases.specs.Readers.{goes_on}
 
 -- the words do not begin with one that c passes
@@ -79,20 +80,20 @@ Parses p c b ws (Ok x) = Read p c b ws x.0 (seen x.1)
 Parses p c b ws (Err e) = Fails p c b ws e.0 (seen e.1)
 
 -- the words of the second are left of the first
-pub record IsLater (s t : Source) : Type 0 where
+pub record IsLater (s t : Left) : Type 0 where
   pub front : List Placed
   pub words : s.words ≡ front ++ t.words
   pub fault : s.fault ≡ t.fault
 
-abbrev pub left_of : {K A : Type 0} → Outcome K A → Source
+abbrev pub left_of : {K A : Type 0} → Outcome K A → Left
 left_of (Ok x) = x.1
 left_of (Err e) = e.1
 
 -- the reader reads the phrase
 pub record Reading {K A : Type 0} (p : Variant K → Phrase A) (c : Token → Bool) (b : ℕ)
     (r : Reader K A) : Type 0 where
-  pub at : (s : Source) → Parses p c b (seen s) (r s)
-  pub later : (s : Source) → IsLater s (left_of (r s))
+  pub at : (s : Left) → Parses p c b (seen s) (r s)
+  pub later : (s : Left) → IsLater s (left_of (r s))
 
 -- ---- what may follow, and what may come first
 
@@ -134,10 +135,6 @@ pub record Opens {K A : Type 0} (p : Variant K → Phrase A) (t : Token → Bool
       → (p i).begins (w ∷ ws) ws
   pub astray : (i : Variant K) (w : Token) (ws : List Token) (k : K) → enough ≤ i.depth
       → kind w ≡ Some k → i.stray ≡ Some k → (p i).begins (w ∷ ws) ws
-
--- no word is astray
-abbrev pub no_strays : {K : Type 0} → Token → Option K
-no_strays w = None
 
 -- nothing of p stands at ws, where words of c go on with it
 pub record Dead {K A : Type 0} (p : Variant K → Phrase A) (c : Token → Bool) (ws : List Token)

@@ -6,7 +6,8 @@ use Rattle.std.proofs.lemmas.List.{length-map}
 use Rattle.std.proofs.Math.Nat.{le_refl}
 use Rattle.tptp_words.specs.Text.{Token, Placed, tokens}
 use Rattle.tptp_phrases.specs.Phrase.{Phrase, Variant, empty, ◌>>=◌, ◌>>◌, ◌or◌, many}
-use Rattle.tptp_phrases.specs.Readers.{Source, seen, Outcome, Reader, goes_on, choose, give, seq}
+use Rattle.tptp_words.specs.Scanning.{Left}
+use Rattle.tptp_phrases.specs.Readers.{seen, Outcome, Reader, goes_on, choose, give, seq}
 use Rattle.tptp_phrases.specs.Readers.{and_then, many_from, many_at}
 use Rattle.tptp_phrases.proofs.Outcomes.{Stops, Read, Parses, Reading, Dead, Starts, Opens, Follows}
 use Rattle.tptp_phrases.proofs.Outcomes.{Apart, Within, Inside, StraysApart, StrayAt, IsLater}
@@ -130,7 +131,7 @@ module _ {K A : Type 0} (p : Variant K → Phrase A) (t first : Token → Bool)
       let off : t a.next ≡ false = subst (λ z. goes_on t z ≡ false) a.is s in
       cc (on, off)
 
-  over_now : (found : List A) (s : Source) → goes_on t (seen s) ≡ false
+  over_now : (found : List A) (s : Left) → goes_on t (seen s) ≡ false
       → Parses (λ i. more (p i) found) e b (seen s) (Ok (found, s))
   over_now found s n =
       parses_same (λ i. empty found or (p i >>= λ a. more (p i) (found ++ a ∷ [])))
@@ -153,8 +154,8 @@ module _ {K A : Type 0} (p : Variant K → Phrase A) (t first : Token → Bool)
       let i : Variant K = record { depth = b; stray = None } in
       shorter_item b ws ms a i (k.derives i (le_refl b)) k
 
-  goes_now : (found : List A) (s : Source) (q : A → Reader K (List A)) → goes_on t (seen s) ≡ true
-      → ((a : A) (u : Source) → Read p c b (seen s) a (seen u)
+  goes_now : (found : List A) (s : Left) (q : A → Reader K (List A)) → goes_on t (seen s) ≡ true
+      → ((a : A) (u : Left) → Read p c b (seen s) a (seen u)
       → Parses (λ i. more (p i) (found ++ a ∷ [])) e b (seen u) (q a u))
       → Parses (λ i. more (p i) found) e b (seen s) (and_then (r s) q)
   goes_now found s q g k =
@@ -169,7 +170,7 @@ module _ {K A : Type 0} (p : Variant K → Phrase A) (t first : Token → Bool)
   no_words [] l = refl
   no_words (w ∷ ws) l = absurd (omega arith)
 
-  parses_many : (turns : ℕ) (found : List A) (s : Source) → length (seen s) ≤ turns
+  parses_many : (turns : ℕ) (found : List A) (s : Left) → length (seen s) ≤ turns
       → Parses (λ i. more (p i) found) e b (seen s) (many_from t r turns found s)
   unfolding many_from seq give
   parses_many zero found s l = over_now found s (no_words (seen s) l)
@@ -181,7 +182,7 @@ module _ {K A : Type 0} (p : Variant K → Phrase A) (t first : Token → Bool)
       parses_many turns (found ++ a ∷ []) u (omega arith)))
       (λ g. over_now found s g)
 
-  later_many : (turns : ℕ) (found : List A) (s : Source)
+  later_many : (turns : ℕ) (found : List A) (s : Left)
       → IsLater s (left_of (many_from t r turns found s))
   unfolding many_from seq give
   later_many zero found s = not_later s
@@ -190,7 +191,7 @@ module _ {K A : Type 0} (p : Variant K → Phrase A) (t first : Token → Bool)
       (later_bind s (r s) (λ a. many_from t r turns (found ++ a ∷ [])) (h.reads.later s)
       (λ a u. later_many turns (found ++ a ∷ []) u)) (not_later s)
 
-  enough_turns : (s : Source) → length (seen s) ≤ length s.words
+  enough_turns : (s : Left) → length (seen s) ≤ length s.words
   enough_turns s = rw (length-map s.words (λ (w : Placed). w.token)) (le_refl (length s.words))
 
   pub reads_many : (found : List A) → Reading (λ i. more (p i) found) e b (many_at t r found)

@@ -5,7 +5,8 @@ use Rattle.std.proofs.Common.{arith, ◌∙◌, ◌++◌, append_assoc}
 use Rattle.std.proofs.Math.Nat.{le_trans, le_refl, le_of_eq}
 use Rattle.tptp_words.specs.Text.{Token, Placed}
 use Rattle.tptp_phrases.specs.Phrase.{Phrase, Variant, empty, ◌>>=◌}
-use Rattle.tptp_phrases.specs.Readers.{Source, seen, Cause, Syntax, TooDeep, Stray, Outcome, Reader}
+use Rattle.tptp_words.specs.Scanning.{Left}
+use Rattle.tptp_phrases.specs.Readers.{seen, Cause, Syntax, TooDeep, Stray, Outcome, Reader}
 use Rattle.tptp_phrases.specs.Readers.{and_then, seq, give}
 use Rattle.tptp_phrases.proofs.Outcomes.{Stops, Read, Refused, Deeper, Any, At, Takes, Leaves}
 use Rattle.tptp_phrases.proofs.Outcomes.{Fails, Parses, IsLater, left_of, Reading, Follows}
@@ -144,7 +145,7 @@ module _ {K A B : Type 0} (p : Variant K → Phrase A) (f : Variant K → A → 
       y.0 k
 
   pub parses_bind : (o : Outcome K A) (q : A → Reader K B) → Parses p c b ws o
-      → ((x : A) (s : Source) → Read p c b ws x (seen s) → Parses (λ i. f i x) e b (seen s) (q x s))
+      → ((x : A) (s : Left) → Read p c b ws x (seen s) → Parses (λ i. f i x) e b (seen s) (q x s))
       → Parses (λ i. p i >>= f i) e b ws (and_then o q)
   parses_bind (Ok x) q h k = second (seen x.1) x.0 (q x.0 x.1) h (k x.0 x.1 h)
   parses_bind (Err y) q h k =
@@ -153,18 +154,18 @@ module _ {K A B : Type 0} (p : Variant K → Phrase A) (f : Variant K → A → 
 
 -- ---- what is left
 
-pub not_later : (s : Source) → IsLater s s
+pub not_later : (s : Left) → IsLater s s
 not_later s = record { front = []; words = refl; fault = refl }
 
-pub later_still : {s t u : Source} → IsLater s t → IsLater t u → IsLater s u
+pub later_still : {s t u : Left} → IsLater s t → IsLater t u → IsLater s u
 later_still {s} {t} {u} h k = record {
   front = h.front ++ k.front;
   words = h.words ∙ ap (λ z. h.front ++ z) k.words ∙ sym (append_assoc h.front k.front u.words);
   fault = h.fault ∙ k.fault;
 }
 
-pub later_bind : {K A B : Type 0} (s : Source) (o : Outcome K A) (q : A → Reader K B)
-    → IsLater s (left_of o) → ((x : A) (t : Source) → IsLater t (left_of (q x t)))
+pub later_bind : {K A B : Type 0} (s : Left) (o : Outcome K A) (q : A → Reader K B)
+    → IsLater s (left_of o) → ((x : A) (t : Left) → IsLater t (left_of (q x t)))
     → IsLater s (left_of (and_then o q))
 later_bind s (Ok x) q h k = later_still h (k x.0 x.1)
 later_bind s (Err e) q h k = h
@@ -181,7 +182,7 @@ reads_then {p = p} {g = g} {c = c} {e = e} {b = b} {r = r} {q = q} h k l = recor
   later = λ s. later_bind s (r s) q (h.later s) (λ x t. (l x).later t);
 }
 
-pub parses_empty : {K A : Type 0} (v : A) (c : Token → Bool) (b : ℕ) (s : Source)
+pub parses_empty : {K A : Type 0} (v : A) (c : Token → Bool) (b : ℕ) (s : Left)
     → Parses {K = K} (λ _. empty v) c b (seen s) (Ok (v, s))
 unfolding empty
 parses_empty v c b s = record {

@@ -6,7 +6,8 @@ use Rattle.std.proofs.Math.Nat.{le_refl, le_of_eq}
 use Rattle.tptp_words.specs.declared.word.WordError.{WordError}
 use Rattle.tptp_words.specs.Text.{Token, Placed, tokens}
 use Rattle.tptp_phrases.specs.Phrase.{Phrase, Variant, word, nothing, stray}
-use Rattle.tptp_phrases.specs.Readers.{Source, seen, Cause, Syntax, TooDeep, Stray, Outcome, Reader}
+use Rattle.tptp_words.specs.Scanning.{Left}
+use Rattle.tptp_phrases.specs.Readers.{seen, Cause, Syntax, TooDeep, Stray, Outcome, Reader}
 use Rattle.tptp_phrases.specs.Readers.{taken, take_from, take_word, refuse, refuse_stray, cause_of}
 use Rattle.tptp_phrases.specs.Readers.{stray_cause, goes_on}
 use Rattle.tptp_phrases.proofs.Outcomes.{Stops, Read, Refused, Deeper, Any, Leaves, Takes, Parses}
@@ -118,7 +119,7 @@ module _ {K : Type 0} (A : Type 0) (kind : Token → Option K) (c : Token → Bo
   unfolding stray
   stray_begun w ws rest k is e i v = inr (w, k, is, e, v)
 
-  stray_at : (w : Token) (ws : List Token) (s : Source) → seen s ≡ w ∷ ws → (o : Option K)
+  stray_at : (w : Token) (ws : List Token) (s : Left) → seen s ≡ w ∷ ws → (o : Option K)
       → kind w ≡ o → Parses {A = A} (λ i. stray kind i) c b (seen s) (Err (cause_of o, s))
   stray_at w ws s is None e =
       refused_here Any (seen s) (λ i v r k _ j h _. cc (is, e, j, h))
@@ -133,7 +134,7 @@ module _ {K : Type 0} (A : Type 0) (kind : Token → Option K) (c : Token → Bo
     },
   )
 
-  stray_words : (s : Source) (ws : List Token) → seen s ≡ ws
+  stray_words : (s : Left) (ws : List Token) → seen s ≡ ws
       → Parses {A = A} (λ i. stray kind i) c b (seen s) (Err (stray_cause kind ws, s))
   stray_words s [] is = refused_here Any (seen s) (λ i v r k _ j h _. cc (is, j))
   stray_words s (w ∷ ws) is = stray_at w ws s is (kind w) refl

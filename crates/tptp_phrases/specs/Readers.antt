@@ -3,15 +3,11 @@ use Rattle.std.specs.Prelude.{ℕ, zero, suc, List, [], ◌∷◌, ◌++◌, Boo
 use Rattle.std.specs.Prelude.{length, Option, Some, None, is_some, Result, Ok, Err}
 use Rattle.tptp_words.specs.declared.word.WordError.{WordError}
 use Rattle.tptp_words.specs.Text.{Token, Placed, tokens}
+use Rattle.tptp_words.specs.Scanning.{Left}
 use Rattle.tptp_phrases.specs.Phrase.{open_behind}
 
--- the words that are left of a text, and then the error because of which there are no more
-pub record Source : Type 0 where
-  pub words : List Placed
-  pub fault : Option WordError
-
 -- the words that are left, without their places
-abbrev pub seen : Source → List Token
+abbrev pub seen : Left → List Token
 seen s = tokens s.words
 
 -- why a reader stops: no word may stand here, or not so deep, or a stray word of a kind stands here
@@ -21,10 +17,10 @@ pub data Cause (K : Type 0) : Type 0 where
 
 -- what was read, or why not, and what is left
 abbrev pub Outcome : Type 0 → Type 0 → Type 0
-Outcome K A = Result (A × Source) (Cause K × Source)
+Outcome K A = Result (A × Left) (Cause K × Left)
 
 abbrev pub Reader : Type 0 → Type 0 → Type 0
-Reader K A = Source → Outcome K A
+Reader K A = Left → Outcome K A
 
 abbrev pub and_then : {K A B : Type 0} → Outcome K A → (A → Reader K B) → Outcome K B
 and_then (Ok p) f = f p.0 p.1
@@ -100,6 +96,10 @@ abbrev pub cause_of : {K : Type 0} → Option K → Cause K
 cause_of None = Syntax
 cause_of (Some k) = Stray k
 
+-- no word is astray
+abbrev pub no_strays : {K : Type 0} → Token → Option K
+no_strays w = None
+
 -- why no word may stand here, where those of a kind are stray
 abbrev pub stray_cause : {K : Type 0} → (Token → Option K) → List Token → Cause K
 stray_cause kind [] = Syntax
@@ -132,7 +132,7 @@ levels_at opens kind rule (suc n) (suc (suc k)) = levels_at opens kind rule n (s
 
 -- ---- any words with brackets that match
 
-abbrev pub enough : {K : Type 0} → ℕ → Bool → Source → Outcome K (Unit {0})
+abbrev pub enough : {K : Type 0} → ℕ → Bool → Left → Outcome K (Unit {0})
 enough zero true s = Ok (tt, s)
 enough _ _ s = Err (Syntax, s)
 

@@ -16,7 +16,10 @@ use Rattle.tptp_syntax.specs.declared.entry.Entry.TheVariants as e
 use Rattle.tptp_syntax.specs.declared.entry.File.{File}
 use Rattle.tptp_syntax.specs.declared.language.Language.{Language}
 use Rattle.tptp_syntax.specs.declared.language.Language.TheVariants.{Tff, Fof}
-use Rattle.tptp_syntax.specs.Strays.{Stray, label, language, role, stray_language, stray_role}
+use Rattle.tptp_syntax.specs.declared.language.Connective.{Connective}
+use Rattle.tptp_syntax.specs.declared.language.Connective.TheVariants as c
+use Rattle.tptp_syntax.specs.Strays.{Stray, label, language, role, connective}
+use Rattle.tptp_syntax.specs.Strays.{stray_language, stray_role}
 use Rattle.tptp_syntax.specs.Strays.{stray_type, stray_term}
 
 -- a variant of this grammar
@@ -188,8 +191,16 @@ bound Tff v =
       a ← type_of v
       empty (record { name = n; kind = Some a }))
 
--- formula := unit | unit op unit | unit & ... & unit | unit | ... | unit
--- op      := => | <= | <=> | <~> | ~& | ~|
+-- op := => | <= | <=> | <~> | ~& | ~|
+abbrev pub joined : Connective → RawFormula → RawFormula → RawFormula
+joined c.Implies a b = f.Implies a b
+joined c.If a b = f.If a b
+joined c.Iff a b = f.Iff a b
+joined c.Xor a b = f.Xor a b
+joined c.Nand a b = f.Nand a b
+joined c.Nor a b = f.Nor a b
+
+-- formula := unit | unit & ... & unit | unit | ... | unit | unit op unit
 abbrev pub formula_of : Phrase RawFormula → Phrase RawFormula
 formula_of unit =
     (do
@@ -197,12 +208,11 @@ formula_of unit =
       empty a)
     or chain (codes "&") f.And unit
     or chain (codes "|") f.Or unit
-    or pair (codes "=>") f.Implies unit unit
-    or pair (codes "<=") f.If unit unit
-    or pair (codes "<=>") f.Iff unit unit
-    or pair (codes "<~>") f.Xor unit unit
-    or pair (codes "~&") f.Nand unit unit
-    or pair (codes "~|") f.Nor unit unit
+    or (do
+      a ← unit
+      op ← word connective
+      b ← unit
+      empty (joined op a b))
 
 -- unit := ! [ var , ... , var ] : unit | ? [ var , ... , var ] : unit | ~ unit | $true | $false
 --       | ( formula ) | atom | term = term | term != term

@@ -1,3 +1,6 @@
 pub mod Strays
 pub mod Grammar
 pub mod Files
+pub mod Descent
+pub mod Ahead
+pub mod Answers

@@ -10,6 +10,8 @@ use Rattle.tptp_syntax.specs.declared.entry.StatedRole.{StatedRole}
 use Rattle.tptp_syntax.specs.declared.entry.StatedRole.TheVariants.{Hypothesis, Conjecture}
 use Rattle.tptp_syntax.specs.declared.language.Language.{Language}
 use Rattle.tptp_syntax.specs.declared.language.Language.TheVariants.{Tff, Fof}
+use Rattle.tptp_syntax.specs.declared.language.Connective.{Connective}
+use Rattle.tptp_syntax.specs.declared.language.Connective.TheVariants as c
 
 abbrev pub is_one_of : List ℕ → List (List ℕ) → Bool
 is_one_of s [] = false
@@ -53,6 +55,22 @@ role_of k s = None
 -- a role of statements, not quoted
 abbrev pub role : Token → Option StatedRole
 role w = role_of w.kind w.spelling
+
+-- ---- connectives
+
+abbrev pub connective_of : WordKind → List ℕ → Option Connective
+connective_of kind.Mark s =
+    if same s (codes "=>") then Some c.Implies
+    else if same s (codes "<=") then Some c.If
+    else if same s (codes "<=>") then Some c.Iff
+    else if same s (codes "<~>") then Some c.Xor
+    else if same s (codes "~&") then Some c.Nand
+    else only_if (same s (codes "~|")) c.Nor
+connective_of k s = None
+
+-- a connective that joins two formulas and is not repeated
+abbrev pub connective : Token → Option Connective
+connective w = connective_of w.kind w.spelling
 
 -- ---- stray words
 

@@ -1,4 +1,4 @@
-//! The languages of entries.
+//! Words that are told apart by name: languages and connectives.
 
 /// The language of an entry.
 #[derive(Clone, Copy, Debug)]
@@ -7,4 +7,21 @@ pub enum Language {
     Tff,
     /// First-order form.
     Fof,
+}
+
+/// A connective that joins two formulas and is not repeated.
+#[derive(Clone, Copy, Debug)]
+pub enum Connective {
+    /// `=>`.
+    Implies,
+    /// `<=`.
+    If,
+    /// `<=>`.
+    Iff,
+    /// `<~>`.
+    Xor,
+    /// `~&`.
+    Nand,
+    /// `~|`.
+    Nor,
 }

@@ -3,8 +3,12 @@
 
 mod entry;
 mod error;
+mod fault;
+mod fixed;
 mod formula;
 mod language;
+mod reader;
+mod spelled;
 mod term;
 mod types;
 
