@@ -13,6 +13,7 @@ use Rattle.tptp_syntax.specs.declared.entry.Entry.TheVariants.{Declaration, Stat
 use Rattle.tptp_syntax.specs.declared.entry.File.{File}
 use Rattle.fof_text.specs.States.{EntryStands, StandFor}
 use Rattle.fof_text.specs.Laws.{StatedProblemsHaveModelsTogether}
+use Rattle.fof_text.proofs.OneFile.{one_file}
 use Rattle.fof_text.proofs.Renamed.{renamed, IsStructure-renamed}
 use Rattle.fof_text.proofs.RenamedFormulas.{Same, formulas_same}
 
@@ -43,10 +44,10 @@ module _ (names others : List (List ℕ)) (g h : List FofSymbol) (one_each : len
       (entry_satisfied e x y a.0 b.0 sa.0 sb.0 m.0, all_satisfied es xs ys a.1 b.1 sa.1 sb.1 m.1)
 
 pub models_together : StatedProblemsHaveModelsTogether
-models_together once text p q a b (tables, are_model) =
+models_together text p q a b (tables, are_model) =
     let s = reading tables in
     let model = IsModel-reading p tables are_model in
-    let same_file : a.file ≡ b.file = once text a.file b.file a.spelled b.spelled in
+    let same_file : a.file ≡ b.file = one_file text a.file b.file a.spelled b.spelled in
     let stands : StandFor b.names a.file.entries q.formulas =
     subst (λ (f : File). StandFor b.names f.entries q.formulas) (sym same_file) b.stands in
     let other = renamed a.names b.names q.signature s in

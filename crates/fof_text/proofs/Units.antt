@@ -4,6 +4,7 @@ use Rattle.std.specs.Prelude.{◌^◌, codes}
 use Rattle.tptp_words.specs.Text.{Token}
 use Rattle.tptp_phrases.specs.Phrase.{Phrase, levels, nested}
 use Rattle.tptp_phrases.specs.Phrase as phrase
+use Rattle.tptp_syntax.specs.declared.language.Connective.TheVariants.{Implies}
 use Rattle.tptp_syntax.specs.declared.language.Language.TheVariants.{Fof}
 use Rattle.tptp_syntax.specs.declared.types.Bound.{Bound}
 use Rattle.tptp_syntax.specs.declared.term.RawTerm.{RawTerm}
@@ -113,9 +114,12 @@ pub implies_unit : (n : ℕ) (w v : Writer) (r s : RawFormula) → Writes (unit_
     → Writes (unit_at (suc n)) (in_brackets (side_by_side (codes "=>") w v)) (f.Implies r s)
 implies_unit n w v r s h k =
     bracketed_unit n (side_by_side (codes "=>") w v) (f.Implies r s)
-    (λ rest. other _ _ (other _ _ (other _ _ (one _ _
-    (pair_of (codes "=>") f.Implies _ _ w v r s (λ more. one_down n (h more))
-    (λ more. one_down n (k more)) rest)))))
+    (λ rest.
+    let arrow : Token = mark_word (codes "=>") in
+    other _ _ (other _ _ (other _ _
+    (seq _ _ (arrow ∷ v rest) r (one_down n (h (arrow ∷ v rest)))
+    (seq _ _ (v rest) Implies (take _ arrow (v rest) refl)
+    (seq _ _ rest s (one_down n (k rest)) (give (f.Implies r s) rest)))))))
 
 -- ---- quantifiers
 

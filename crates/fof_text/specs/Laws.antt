@@ -6,8 +6,6 @@ use Rattle.fof_models.specs.declared.problem.FofProblem.{FofProblem}
 use Rattle.fof_models.specs.Sound.{IsSound}
 use Rattle.fof_models.specs.Models.{HasFiniteModel}
 use Rattle.tptp_words.specs.Text.{AllPass, not_feed}
-use Rattle.tptp_syntax.specs.declared.entry.File.{File}
-use Rattle.tptp_syntax.specs.Files.{Spells}
 use Rattle.fof_text.specs.Names.{chosen_names, free_number, is_free, numbered, wanted_names}
 use Rattle.fof_text.specs.States.{IsWritable, States, AreNamed}
 use Rattle.fof_text.specs.Written.{comment_line, text_of}
@@ -23,13 +21,9 @@ CommentsChangeNothing =
     (body text : List ℕ) (p : FofProblem) → AllPass not_feed body → States text p
     → States (comment_line body ++ text) p
 
--- a text spells at most one file
-abbrev pub OneFile : Type 0
-OneFile = (text : List ℕ) (f g : File) → Spells text f → Spells text g → f ≡ g
-
 -- where one problem that a text states has a finite model, every problem that it states has one
 abbrev pub StatedProblemsHaveModelsTogether : Type 0
-StatedProblemsHaveModelsTogether = OneFile →
+StatedProblemsHaveModelsTogether =
     (text : List ℕ) (p q : FofProblem) → States text p → States text q
     → HasFiniteModel p → HasFiniteModel q
 
