@@ -1,5 +1,7 @@
 -- The choices of names, one after another, and that no two are the same.
-use Rattle.std.proofs.Common.{◌≡◌, ℕ, zero, suc, ◌+◌, ◌-◌, ◌<◌, ◌≤◌, ◌⊎◌, inl, inr, Bool, true, false, not, ◌&&◌, ◌||◌, if◌then◌else◌, List, [], ◌∷◌, ◌++◌, length, take, refl, sym, ◌∙◌, ap, subst, arith, ⊎_elim, length-append}
+use Rattle.std.proofs.Common.{◌≡◌, ℕ, zero, suc, ◌+◌, ◌-◌, ◌<◌, ◌≤◌, ◌⊎◌, inl, inr, Bool, true}
+use Rattle.std.proofs.Common.{false, not, ◌&&◌, ◌||◌, if◌then◌else◌, List, [], ◌∷◌, ◌++◌, length}
+use Rattle.std.proofs.Common.{take, refl, sym, ◌∙◌, ap, subst, arith, ⊎_elim, length-append}
 use Rattle.std.specs.Prelude.{◌^◌, codes, get_or}
 use Rattle.std.specs.Fmt.{decimal}
 use Rattle.std.proofs.lemmas.Fmt.{decimal_injective}
@@ -7,7 +9,8 @@ use Rattle.std.proofs.lemmas.Bool.{and_parts}
 use Rattle.std.proofs.lemmas.List.{length-map, map-append, take_all, take_more}
 use Rattle.fof_models.specs.declared.problem.FofSymbol.{FofSymbol}
 use Rattle.tptp_words.specs.Words.{same}
-use Rattle.fof_text.specs.Names.{place_of, is_among, AllDiffer, least_below, numbered, is_free, free_number, choice, choices, wanted_names, chosen_names}
+use Rattle.fof_text.specs.Names.{place_of, is_among, AllDiffer, least_below, numbered, is_free}
+use Rattle.fof_text.specs.Names.{free_number, choice, choices, wanted_names, chosen_names}
 use Rattle.fof_text.specs.Uses.{Uses, Knows, IsChosen}
 use Rattle.fof_text.proofs.Places.{same_is, same_self}
 use Rattle.fof_text.proofs.Taken.{among_more, is_among-append}
@@ -61,7 +64,8 @@ one_more wanted front names old new name chosen h k = record {
   are = ap (λ z. z ++ chosen ∷ []) h.are ∙ ap (λ z. choices wanted [] front ++ z ∷ []) k.is
       ∙ sym (choices-append wanted [] front name);
   known = subst (λ z. Knows wanted z new)
-      (ap (λ z. z ∷ passed wanted [] front) k.is ∙ sym (passed-append wanted [] front name)) k.known;
+      (ap (λ z. z ∷ passed wanted [] front) k.is
+      ∙ sym (passed-append wanted [] front name)) k.known;
 }
 
 -- all names are chosen
@@ -74,7 +78,8 @@ are_whole signature i names uses l h =
 
 pub limit_is : (signature front : List FofSymbol) (i : ℕ) → length front ≡ i
     → i + length signature
-    ≡ length (passed (wanted_names signature) [] (wanted_names front)) + length (wanted_names signature)
+    ≡ length (passed (wanted_names signature) [] (wanted_names front)) + length
+    (wanted_names signature)
 limit_is signature front i e =
     let before = length-passed (wanted_names signature) [] (wanted_names front) in
     let fronts = length-map front (λ (symbol : FofSymbol). symbol.wanted) in
@@ -132,12 +137,14 @@ front_cancels (x ∷ xs) ys zs e = front_cancels xs ys zs (cc e)
 numbered_differ : (name : List ℕ) (j k : ℕ) → j < k → k < 2 ^ 64
     → numbered name k ≡ numbered name j → ⊥
 numbered_differ name j k l m e =
-    let texts : decimal k ≡ decimal j = cc (front_cancels name (codes "_" ++ decimal k) (codes "_" ++ decimal j) e) in
+    let texts : decimal k ≡ decimal j =
+    cc (front_cancels name (codes "_" ++ decimal k) (codes "_" ++ decimal j) e) in
     let numbers = decimal_injective k j m (omega arith) texts in
     omega (arith, numbers, l)
 
 least_below-says : (n : ℕ) (test : ℕ → Bool)
-    → (test (least_below n test) ≡ true) ⊎ (((j : ℕ) → j < n → test j ≡ false) × (least_below n test ≡ n))
+    → (test (least_below n test) ≡ true) ⊎
+    (((j : ℕ) → j < n → test j ≡ false) × (least_below n test ≡ n))
 least_below-says zero test = inr ((λ j l. absurd (omega arith)), refl)
 least_below-says (suc n) test = go (test 0) refl (least_below-says n (λ k. test (suc k)))
   where
@@ -145,7 +152,8 @@ least_below-says (suc n) test = go (test 0) refl (least_below-says n (λ k. test
         → (test (suc (least_below n (λ k. test (suc k)))) ≡ true)
         ⊎ (((j : ℕ) → j < n → test (suc j) ≡ false) × (least_below n (λ k. test (suc k)) ≡ n))
         → (test (if v then 0 else suc (least_below n (λ k. test (suc k)))) ≡ true)
-        ⊎ (((j : ℕ) → j < suc n → test j ≡ false) × ((if v then 0 else suc (least_below n (λ k. test (suc k)))) ≡ suc n))
+        ⊎ (((j : ℕ) → j < suc n → test j ≡ false)
+        × ((if v then 0 else suc (least_below n (λ k. test (suc k)))) ≡ suc n))
     go true e rest = inl e
     go false e (inl h) = inl h
     go false e (inr (none, last)) = inr (all, ap suc last)
@@ -208,7 +216,8 @@ choice_is_new : (wanted earlier : List (List ℕ)) (name : List ℕ)
 choice_is_new wanted earlier name few = go (is_among earlier name) refl
   where
     go : (v : Bool) → is_among earlier name ≡ v
-        → is_among earlier (if v then numbered name (free_number wanted earlier name) else name) ≡ false
+        → is_among earlier (if v then numbered name (free_number wanted earlier name) else name)
+        ≡ false
     go true e = not_true _ (and_parts _ _ (free_found wanted earlier name few)).0
     go false e = e
 
@@ -221,10 +230,12 @@ earlier_absent wanted earlier (n ∷ ns) x few h =
     let rest = earlier_absent wanted (c ∷ earlier) ns x (omega arith) (among_more c x earlier h) in
     ap (λ v. v || is_among (choices wanted (c ∷ earlier) ns) x) (go (same x c) refl) ∙ rest
   where
-    go : (v : Bool) → same x (choice wanted earlier n) ≡ v → same x (choice wanted earlier n) ≡ false
+    go : (v : Bool) → same x (choice wanted earlier n) ≡ v
+        → same x (choice wanted earlier n) ≡ false
     go false e = e
     go true e =
-        absurd (cc (sym (ap (is_among earlier) (same_is x _ e) ∙ choice_is_new wanted earlier n (omega arith)) ∙ h))
+        absurd (cc (sym (ap (is_among earlier) (same_is x _ e)
+        ∙ choice_is_new wanted earlier n (omega arith)) ∙ h))
 
 absent_place : (ns : List (List ℕ)) (x : List ℕ) → is_among ns x ≡ false → length ns ≤ place_of ns x
 absent_place [] x h = omega arith
@@ -237,12 +248,14 @@ absent_place (n ∷ ns) x h = go (same x n) refl h (absent_place ns x)
     go false e k rest = let tail = rest k in omega arith
 
 choices_differ : (wanted earlier ns : List (List ℕ))
-    → length earlier + length ns + length wanted < 2 ^ 64 - 1 → AllDiffer (choices wanted earlier ns)
+    → length earlier + length ns + length wanted < 2 ^ 64 - 1
+    → AllDiffer (choices wanted earlier ns)
 choices_differ wanted earlier [] few = tt
 choices_differ wanted earlier (n ∷ ns) few =
     let c : List ℕ = choice wanted earlier n in (
       absent_place (choices wanted (c ∷ earlier) ns) c
-          (earlier_absent wanted (c ∷ earlier) ns c (omega arith) (ap (λ v. v || is_among earlier c) (same_self c))),
+          (earlier_absent wanted (c ∷ earlier) ns c (omega arith)
+          (ap (λ v. v || is_among earlier c) (same_self c))),
       choices_differ wanted (c ∷ earlier) ns (omega arith),
     )
 
@@ -252,7 +265,8 @@ chosen_differ signature few =
     let all = length-map signature (λ (symbol : FofSymbol). symbol.wanted) in
     choices_differ (wanted_names signature) [] (wanted_names signature) (omega (arith, few, all))
 
-length-choices : (wanted earlier ns : List (List ℕ)) → length (choices wanted earlier ns) ≡ length ns
+length-choices : (wanted earlier ns : List (List ℕ))
+    → length (choices wanted earlier ns) ≡ length ns
 length-choices wanted earlier [] = refl
 length-choices wanted earlier (n ∷ ns) =
     ap suc (length-choices wanted (choice wanted earlier n ∷ earlier) ns)

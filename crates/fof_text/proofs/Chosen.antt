@@ -1,5 +1,6 @@
 -- Laws of chosen names.
-use Rattle.std.proofs.Common.{◌≡◌, ℕ, zero, suc, ◌+◌, ◌%◌, ◌<◌, ◌≤◌, Bool, true, false, if◌then◌else◌, List, [], ◌∷◌, ◌++◌, length, refl, arith}
+use Rattle.std.proofs.Common.{◌≡◌, ℕ, zero, suc, ◌+◌, ◌%◌, ◌<◌, ◌≤◌, Bool, true, false}
+use Rattle.std.proofs.Common.{if◌then◌else◌, List, [], ◌∷◌, ◌++◌, length, refl, arith}
 use Rattle.std.specs.Prelude.{◌^◌, codes}
 use Rattle.std.specs.List.{AllByRecursion}
 use Rattle.std.specs.Fmt.{decimal}
@@ -8,7 +9,8 @@ use Rattle.std.proofs.lemmas.Bool.Decides.{nat_tests}
 use Rattle.std.proofs.lemmas.Fmt.{decimal_by_steps}
 use Rattle.fof_models.specs.declared.problem.FofSymbol.{FofSymbol}
 use Rattle.tptp_words.specs.Text.{is_printable, AllPass, some_bytes}
-use Rattle.fof_text.specs.Names.{is_among, is_free, least_below, numbered, free_number, choice, choices, wanted_names}
+use Rattle.fof_text.specs.Names.{is_among, is_free, least_below, numbered, free_number, choice}
+use Rattle.fof_text.specs.Names.{choices, wanted_names}
 use Rattle.fof_text.specs.States.{IsWritable}
 use Rattle.fof_text.specs.Laws.{NumbersAreLeast, ChosenNamesAreNames}
 use Rattle.fof_text.proofs.Choices.{free_found, chosen_differ, length-chosen}
@@ -28,7 +30,8 @@ least_below-before (suc n) test k l =
 pub numbers_least : NumbersAreLeast
 numbers_least wanted earlier name few = (
   free_found wanted earlier name (omega arith),
-  least_below-before (length earlier + length wanted) (λ k. is_free wanted earlier (numbered name k)),
+  least_below-before (length earlier + length wanted)
+      (λ k. is_free wanted earlier (numbered name k)),
 )
 
 -- ---- names that can be written
@@ -72,10 +75,13 @@ choice_writable : (wanted earlier : List (List ℕ)) (name : List ℕ)
 choice_writable wanted earlier name few h = go (is_among earlier name)
   where
     within : free_number wanted earlier name ≤ length earlier + length wanted
-    within = least_below-within (length earlier + length wanted) (λ k. is_free wanted earlier (numbered name k))
+    within = least_below-within (length earlier + length wanted)
+        (λ k. is_free wanted earlier (numbered name k))
 
-    go : (v : Bool) → IsWritable (if v then numbered name (free_number wanted earlier name) else name)
-    go true = numbered_writable name (free_number wanted earlier name) (omega (arith, few, within)) h
+    go : (v : Bool) → IsWritable
+        (if v then numbered name (free_number wanted earlier name) else name)
+    go true = numbered_writable name (free_number wanted earlier name)
+        (omega (arith, few, within)) h
     go false = h
 
 choices_writable : (wanted earlier ns : List (List ℕ))

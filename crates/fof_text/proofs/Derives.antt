@@ -1,5 +1,6 @@
 -- Words derive a phrase: what holds from some depth on, and one lemma for each part of a rule.
-use Rattle.std.proofs.Common.{◌≡◌, ℕ, zero, suc, ◌+◌, ◌≤◌, inl, inr, List, ◌∷◌, Option, Some, refl, arith}
+use Rattle.std.proofs.Common.{◌≡◌, ℕ, zero, suc, ◌+◌, ◌≤◌, inl, inr, List, ◌∷◌, Option, Some, refl}
+use Rattle.std.proofs.Common.{arith}
 use Rattle.tptp_words.specs.Text.{Token}
 use Rattle.tptp_phrases.specs.Phrase.{Phrase, empty, word, ◌>>=◌, ◌or◌, many, Row}
 

@@ -13,7 +13,8 @@ use Rattle.tptp_syntax.specs.declared.entry.Entry.TheVariants.{Statement}
 use Rattle.tptp_syntax.specs.Strays.{role}
 use Rattle.tptp_syntax.specs.Grammar.{formula, entry, statement, notes}
 use Rattle.tptp_syntax.specs.Files.{strict}
-use Rattle.fof_text.specs.Written.{Writer, mark_word, lower_word, label_word, role_name, entry_words, formula_words}
+use Rattle.fof_text.specs.Written.{Writer, mark_word, lower_word, label_word, role_name}
+use Rattle.fof_text.specs.Written.{entry_words, formula_words}
 use Rattle.fof_text.specs.States.{IsWritable}
 use Rattle.fof_text.proofs.RawTrees.{raw_formula}
 use Rattle.fof_text.proofs.Spelled.{Joins, Joined, text, label_is, done_ends}

@@ -1,5 +1,6 @@
 -- The parts of a formula have no more binders than the formula.
-use Rattle.std.proofs.Common.{◌≡◌, ◌+◌, ◌<◌, ◌≤◌, ℕ, zero, suc, List, [], ◌∷◌, map, length, sym, ap, subst, ◌∙◌, arith}
+use Rattle.std.proofs.Common.{◌≡◌, ◌+◌, ◌<◌, ◌≤◌, ℕ, zero, suc, List, [], ◌∷◌, map, length, sym, ap}
+use Rattle.std.proofs.Common.{subst, ◌∙◌, arith}
 use Rattle.std.specs.Prelude.{◌^◌, get_or}
 use Rattle.std.specs.List.{AllByRecursion, sum}
 use Rattle.std.proofs.lemmas.List.Sums.{sum_by-cons}
@@ -60,7 +61,8 @@ HaveFew fs = AllByRecursion (λ (f : FofFormula). binder_count f.body < 2 ^ 32) 
 pub entry_few : (fs : List FofFormula) (i : ℕ) (f : FofFormula) → i < length fs → f ≡ get_or fs i f
     → HaveFew fs → binder_count f.body < 2 ^ 32
 entry_few [] i f l e h = absurd (omega arith)
-entry_few (x ∷ fs) zero f l e h = subst (λ (z : FofFormula). binder_count z.body < 2 ^ 32) (sym e) h.0
+entry_few (x ∷ fs) zero f l e h =
+    subst (λ (z : FofFormula). binder_count z.body < 2 ^ 32) (sym e) h.0
 entry_few (x ∷ fs) (suc i) f l e h = entry_few fs i f (omega arith) e h.1
 
 pub sound_few : (p : FofProblem) → IsSound p → HaveFew p.formulas

@@ -1,5 +1,6 @@
 -- The words of a formula derive a tree that stands for the formula.
-use Rattle.std.proofs.Common.{◌≡◌, ℕ, suc, ◌+◌, ◌<◌, Bool, true, List, [], ◌∷◌, length, map, refl, sym, ◌∙◌, ap, subst, arith}
+use Rattle.std.proofs.Common.{◌≡◌, ℕ, suc, ◌+◌, ◌<◌, Bool, true, List, [], ◌∷◌, length, map, refl}
+use Rattle.std.proofs.Common.{sym, ◌∙◌, ap, subst, arith}
 use Rattle.std.specs.Prelude.{◌^◌, codes, sum}
 use Rattle.std.specs.List.{list_all, AllByRecursion}
 use Rattle.std.proofs.lemmas.Bool.{and_parts}
@@ -12,11 +13,13 @@ use Rattle.fof_models.specs.declared.formula.Fof.TheVariants as F
 use Rattle.fof_models.specs.declared.formula.Fof.TheOpen.{Fof-F}
 use Rattle.fof_models.specs.declared.formula.Fof.TheOpen as G
 use Rattle.fof_models.specs.declared.formula.Fof.TheFolds.{fold-roll-Fof, map-Fof}
-use Rattle.fof_models.specs.Sound.{is_formula, is_formula_step, has_pairs, has_pairs_step, binder_count, binder_count_step}
+use Rattle.fof_models.specs.Sound.{is_formula, is_formula_step, has_pairs, has_pairs_step}
+use Rattle.fof_models.specs.Sound.{binder_count, binder_count_step}
 use Rattle.tptp_syntax.specs.declared.formula.RawFormula.{RawFormula}
 use Rattle.tptp_syntax.specs.declared.formula.RawFormula.TheVariants as f
 use Rattle.fof_text.specs.Names.{name_at, AllDiffer}
-use Rattle.fof_text.specs.Written.{Writer, mark_word, separated, in_brackets, Both, formula_words, formula_words_step}
+use Rattle.fof_text.specs.Written.{Writer, mark_word, separated, in_brackets, Both, formula_words}
+use Rattle.fof_text.specs.Written.{formula_words_step}
 use Rattle.fof_text.specs.Meaning.{term_meant, formula_meant}
 use Rattle.fof_text.specs.States.{IsWritable}
 use Rattle.fof_text.proofs.Places.{place_there, binders_of}
@@ -24,7 +27,9 @@ use Rattle.fof_text.proofs.Trees.{formulas_by_layer}
 use Rattle.fof_text.proofs.RawTrees.{raw_term, RawBoth, raw_formula, raw_formula_step}
 use Rattle.fof_text.proofs.Meanings as meant
 use Rattle.fof_text.proofs.Spelled.{Joins, name_is}
-use Rattle.fof_text.proofs.Joins.{AllJoin, applied_joins, bracketed, separated_joins, sides_join, negated_joins, true_joins, false_joins, for_all_joins, exists_joins, equals_parts, unequal_parts, implies_parts}
+use Rattle.fof_text.proofs.Joins.{AllJoin, applied_joins, bracketed, separated_joins, sides_join}
+use Rattle.fof_text.proofs.Joins.{negated_joins, true_joins, false_joins, for_all_joins}
+use Rattle.fof_text.proofs.Joins.{exists_joins, equals_parts, unequal_parts, implies_parts}
 use Rattle.fof_text.proofs.Joins as joins
 use Rattle.fof_text.proofs.Derives.{Eventually, always, both, weaker, deeper}
 use Rattle.fof_text.proofs.Writers.{Writes, AllWrite}
@@ -63,7 +68,8 @@ module _ (names : List (List ℕ)) (g : List FofSymbol) (one_each : length names
       {rs : List RawFormula} → FormulaReads d x w r → FormulasRead d xs ws rs
       → FormulasRead d (x ∷ xs) (w ∷ ws) (r ∷ rs)
   more_read {d} {x} {xs} {rs = rs} h k =
-      let tail = map (λ (h : List (List ℕ) → Fof). h (binders_of d)) (map (formula_meant names) rs) in
+      let tail = map (λ (h : List (List ℕ) → Fof). h (binders_of d))
+      (map (formula_meant names) rs) in
       record {
         writes = both h.writes k.writes;
         joins = (h.joins, k.joins);
@@ -120,17 +126,21 @@ module _ (names : List (List ℕ)) (g : List FofSymbol) (one_each : length names
 
   abbrev LayerClaim : Fof-F Fof → Type 0
   LayerClaim x =
-      Claim (sound_layer x) (pairs_layer x) (count_layer x) (words_layer x) (tree_layer x) (roll-Fof x)
+      Claim (sound_layer x) (pairs_layer x) (count_layer x) (words_layer x) (tree_layer x)
+      (roll-Fof x)
 
   rolled : (x : Fof-F Fof) → LayerClaim x → FormulaClaim (roll-Fof x)
   unfolding is_formula has_pairs binder_count formula_words raw_formula
   rolled x h =
       let y = roll-Fof x in
-      subst (λ s. Claim s (has_pairs y) (binder_count y) (formula_words names y) (raw_formula names y) y)
+      subst (λ s. Claim s (has_pairs y) (binder_count y) (formula_words names y)
+      (raw_formula names y) y)
       (sym (fold-roll-Fof (ℕ → Bool) (is_formula_step g) x))
-      (subst (λ p. Claim (sound_layer x) p (binder_count y) (formula_words names y) (raw_formula names y) y)
+      (subst (λ p. Claim (sound_layer x) p (binder_count y) (formula_words names y)
+      (raw_formula names y) y)
       (sym (fold-roll-Fof Bool has_pairs_step x))
-      (subst (λ b. Claim (sound_layer x) (pairs_layer x) b (formula_words names y) (raw_formula names y) y)
+      (subst (λ b. Claim (sound_layer x) (pairs_layer x) b (formula_words names y)
+      (raw_formula names y) y)
       (sym (fold-roll-Fof ℕ binder_count_step x))
       (subst (λ w. Claim (sound_layer x) (pairs_layer x) (count_layer x) w (raw_formula names y) y)
       (sym (fold-roll-Fof Both (formula_words_step names) x))
@@ -145,7 +155,8 @@ module _ (names : List (List ℕ)) (g : List FofSymbol) (one_each : length names
   all_kept : (us : List Kept) (d : ℕ) → d + sum (map binder_count (of_kept us)) < 2 ^ 64
       → list_all (λ (p : ℕ → Bool). p d) (map (is_formula g) (of_kept us)) ≡ true
       → list_all (λ (p : Bool). p) (map has_pairs (of_kept us)) ≡ true
-      → FormulasRead d (of_kept us) (map (λ (w : Both). w.is d) (map (formula_words names) (of_kept us)))
+      → FormulasRead d (of_kept us)
+      (map (λ (w : Both). w.is d) (map (formula_words names) (of_kept us)))
       (map (λ (r : RawBoth). r.is d) (map (raw_formula names) (of_kept us)))
   all_kept [] d l h p = none_read d
   all_kept (u ∷ us) d l h p =
@@ -217,13 +228,15 @@ module _ (names : List (List ℕ)) (g : List FofSymbol) (one_each : length names
       let left = terms_read names g one_each differ writable a d (omega arith) hs.0 in
       let right = terms_read names g one_each differ writable b d (omega arith) hs.1 in (
         record {
-          writes = weaker (λ n k. unit.equal_unit n _ _ _ _ k.0 k.1) (both left.writes right.writes);
+          writes = weaker (λ n k. unit.equal_unit n _ _ _ _ k.0 k.1)
+              (both left.writes right.writes);
           joins = sides_join (codes "=") equals_parts _ _ left.joins right.joins;
           meant = meant.formula_meant-equal names _ _ _ ∙ same_equal left.meant right.meant
               ∙ sym (F.rolls-Equal a b);
         },
         record {
-          writes = weaker (λ n k. unit.unequal_unit n _ _ _ _ k.0 k.1) (both left.writes right.writes);
+          writes = weaker (λ n k. unit.unequal_unit n _ _ _ _ k.0 k.1)
+              (both left.writes right.writes);
           joins = sides_join (codes "!=") unequal_parts _ _ left.joins right.joins;
           meant = meant.formula_meant-unequal names _ _ _
               ∙ ap F.Not (same_equal left.meant right.meant ∙ sym (F.rolls-Equal a b));
@@ -239,7 +252,8 @@ module _ (names : List (List ℕ)) (g : List FofSymbol) (one_each : length names
       let left = (u.1 d (omega arith) hs.0 ps.0).0 in
       let right = (v.1 d (omega arith) hs.1 ps.1).0 in
       with_not (record {
-        writes = deeper (λ n k. unit.implies_unit n _ _ _ _ k.0 k.1) (both left.writes right.writes);
+        writes = deeper (λ n k. unit.implies_unit n _ _ _ _ k.0 k.1)
+            (both left.writes right.writes);
         joins = bracketed _ (sides_join (codes "=>") implies_parts _ _ left.joins right.joins);
         meant = meant.formula_meant-implies names _ _ _ ∙ same_implies left.meant right.meant
             ∙ sym (F.rolls-Implies u.0 v.0);
@@ -251,7 +265,8 @@ module _ (names : List (List ℕ)) (g : List FofSymbol) (one_each : length names
       let e : d + 1 ≡ suc d = omega arith in
       let few : d < 2 ^ 64 = omega arith in
       with_not (record {
-        writes = deeper (λ n i. unit.for_all_unit n d few (formula_words names u.0).is _ i) k.writes;
+        writes = deeper (λ n i. unit.for_all_unit n d few
+            (formula_words names u.0).is _ i) k.writes;
         joins = for_all_joins d few (formula_words names u.0).is k.joins;
         meant = meant.formula_meant-for_all names _ _ _
             ∙ ap F.ForAll (ap (formula_meant names _) (sym (ap binders_of e)) ∙ k.meant)
@@ -286,7 +301,12 @@ module _ (names : List (List ℕ)) (g : List FofSymbol) (one_each : length names
   layer (G.Equal a b) = rolled (G.Equal a b) (equal_layer a b)
   layer (G.Not u) = rolled (G.Not u.0) (λ d l h p.
       let k = (u.1 d l h p).1 in
-      with_not (record { writes = k.writes; joins = k.joins; meant = k.meant ∙ sym (F.rolls-Not u.0) }))
+      with_not (record {
+        writes = k.writes;
+        joins = k.joins;
+        meant = k.meant
+            ∙ sym (F.rolls-Not u.0);
+      }))
   layer (G.And us) = rolled (G.And (of_kept us)) (and_layer us)
   layer (G.Or us) = rolled (G.Or (of_kept us)) (or_layer us)
   layer (G.Implies u v) = rolled (G.Implies u.0 v.0) (implies_layer u v)

@@ -4,7 +4,9 @@ use Rattle.std.specs.Prelude.{codes, ◌^◌}
 use Rattle.tptp_words.specs.declared.word.WordKind.TheVariants.{Mark}
 use Rattle.tptp_words.specs.Text.{Token, Spells}
 use Rattle.tptp_words.proofs.Longest.{Begin, run, Ends}
-use Rattle.fof_text.specs.Written.{Writer, mark_word, more, separated, in_brackets, side_by_side, applied, name_word, dollar_word, variable_word, quantified, after}
+use Rattle.fof_text.specs.Written.{Writer, mark_word, more, separated, in_brackets, side_by_side}
+use Rattle.fof_text.specs.Written.{applied, name_word, dollar_word, variable_word, quantified}
+use Rattle.fof_text.specs.Written.{after}
 use Rattle.fof_text.proofs.Spelled.{Stops, done_ends, Joined, text, Joins, variable_is}
 
 abbrev pub AllJoin : List Writer → Type 0
@@ -17,36 +19,80 @@ pub record Parts (m : List ℕ) : Type 0 where
   pub stops : (rest : List Token) → Stops (text (mark_word m ∷ rest))
   pub ends : (rest : List Token) → Ends (run Begin m) (after (mark_word m) ++ text rest)
 
-pub more_joins : (m : List ℕ) → Parts m → (ws : List Writer) → AllJoin ws → (rest : List Token) → Joined rest → Stops (text rest) → Joined (more (mark_word m) ws rest) × Stops (text (more (mark_word m) ws rest))
+pub more_joins : (m : List ℕ) → Parts m → (ws : List Writer) → AllJoin ws → (rest : List Token)
+    → Joined rest → Stops (text rest)
+    → Joined (more (mark_word m) ws rest) × Stops (text (more (mark_word m) ws rest))
 more_joins m p [] h rest j s = (j, s)
 more_joins m p (w ∷ ws) h rest j s =
-    let tail = more_joins m p ws h.1 rest j s in
-    ((p.spelled, p.ends (w (more (mark_word m) ws rest)), h.0.joined (more (mark_word m) ws rest) tail.0 tail.1), p.stops (w (more (mark_word m) ws rest)))
+    let tail = more_joins m p ws h.1 rest j s in (
+      (
+        p.spelled,
+        p.ends (w (more (mark_word m) ws rest)),
+        h.0.joined
+            (more (mark_word m) ws rest) tail.0 tail.1,
+      ),
+      p.stops (w (more (mark_word m) ws rest)),
+    )
 
-pub separated_joins : (m : List ℕ) → Parts m → (w : Writer) (ws : List Writer) → AllJoin (w ∷ ws) → Joins (separated (mark_word m) (w ∷ ws))
+pub separated_joins : (m : List ℕ) → Parts m → (w : Writer) (ws : List Writer) → AllJoin (w ∷ ws)
+    → Joins (separated (mark_word m) (w ∷ ws))
 separated_joins m p w ws h = record {
-  joined = λ rest j s. let tail = more_joins m p ws h.1 rest j s in h.0.joined (more (mark_word m) ws rest) tail.0 tail.1;
+  joined = λ rest j s. let tail =
+      more_joins m p ws h.1 rest j s in h.0.joined (more (mark_word m) ws rest) tail.0 tail.1;
   begins = λ rest. h.0.begins (more (mark_word m) ws rest);
 }
 
 -- the marks between parts
 pub comma_parts : Parts (codes ",")
-comma_parts = record { spelled = inr (inr (inr (inr (inl refl)))); stops = λ rest. record { name = refl; digits = refl; done = refl }; ends = λ rest. done_ends _ }
+comma_parts = record {
+  spelled = inr (inr (inr (inr (inl refl))));
+  stops =
+      λ rest. record { name = refl; digits = refl; done = refl };
+  ends = λ rest. done_ends _;
+}
 
 pub equals_parts : Parts (codes "=")
-equals_parts = record { spelled = inr (inr (inr (inr (inr (inr (inr (inl refl))))))); stops = λ rest. record { name = refl; digits = refl; done = refl }; ends = λ rest. refl }
+equals_parts = record {
+  spelled = inr (inr (inr (inr (inr (inr (inr (inl refl)))))));
+  stops =
+      λ rest. record { name = refl; digits = refl; done = refl };
+  ends = λ rest. refl;
+}
 
 pub unequal_parts : Parts (codes "!=")
-unequal_parts = record { spelled = inr (inr (inr (inr (inr (inr (inr (inr (inl refl)))))))); stops = λ rest. record { name = refl; digits = refl; done = refl }; ends = λ rest. refl }
+unequal_parts = record {
+  spelled = inr (inr (inr (inr (inr (inr (inr (inr (inl refl))))))));
+  stops =
+      λ rest. record { name = refl; digits = refl; done = refl };
+  ends = λ rest. refl;
+}
 
 pub and_parts : Parts (codes "&")
-and_parts = record { spelled = inr (inr (inr (inr (inr (inr (inr (inr (inr (inr (inl refl)))))))))); stops = λ rest. record { name = refl; digits = refl; done = refl }; ends = λ rest. refl }
+and_parts = record {
+  spelled =
+      inr (inr (inr (inr (inr (inr (inr (inr (inr (inr (inl refl))))))))));
+  stops =
+      λ rest. record { name = refl; digits = refl; done = refl };
+  ends = λ rest. refl;
+}
 
 pub or_parts : Parts (codes "|")
-or_parts = record { spelled = inr (inr (inr (inr (inr (inr (inr (inr (inr (inr (inr (inl refl))))))))))); stops = λ rest. record { name = refl; digits = refl; done = refl }; ends = λ rest. refl }
+or_parts = record {
+  spelled =
+      inr (inr (inr (inr (inr (inr (inr (inr (inr (inr (inr (inl refl)))))))))));
+  stops =
+      λ rest. record { name = refl; digits = refl; done = refl };
+  ends = λ rest. refl;
+}
 
 pub implies_parts : Parts (codes "=>")
-implies_parts = record { spelled = inr (inr (inr (inr (inr (inr (inr (inr (inr (inr (inr (inr (inl refl)))))))))))); stops = λ rest. record { name = refl; digits = refl; done = refl }; ends = λ rest. refl }
+implies_parts = record {
+  spelled =
+      inr (inr (inr (inr (inr (inr (inr (inr (inr (inr (inr (inr (inl refl))))))))))));
+  stops =
+      λ rest. record { name = refl; digits = refl; done = refl };
+  ends = λ rest. refl;
+}
 
 pub close_stops : (rest : List Token) → Stops (text (mark_word (codes ")") ∷ rest))
 close_stops rest = record { name = refl; digits = refl; done = refl }
@@ -56,22 +102,32 @@ close_joined rest j = (inr (inl refl), done_ends _, j)
 
 pub bracketed : (w : Writer) → Joins w → Joins (in_brackets w)
 bracketed w h = record {
-  joined = λ rest j s. (inl refl, done_ends _, h.joined (mark_word (codes ")") ∷ rest) (close_joined rest j) (close_stops rest));
+  joined = λ rest j s. (
+    inl refl,
+    done_ends _,
+    h.joined (mark_word (codes ")") ∷ rest)
+        (close_joined rest j) (close_stops rest),
+  );
   begins = λ rest. refl;
 }
 
-pub sides_join : (m : List ℕ) → Parts m → (a b : Writer) → Joins a → Joins b → Joins (side_by_side m a b)
+pub sides_join : (m : List ℕ) → Parts m → (a b : Writer) → Joins a → Joins b
+    → Joins (side_by_side m a b)
 sides_join m p a b h k = record {
-  joined = λ rest j s. h.joined (mark_word m ∷ b rest) (p.spelled, p.ends (b rest), k.joined rest j s) (p.stops (b rest));
+  joined = λ rest j s. h.joined (mark_word m ∷ b rest)
+      (p.spelled, p.ends (b rest), k.joined rest j s) (p.stops (b rest));
   begins = λ rest. h.begins (mark_word m ∷ b rest);
 }
 
 -- p or p(t,t)
-pub applied_joins : (n : List ℕ) → Joins (λ rest. name_word n ∷ rest) → (ws : List Writer) → AllJoin ws → Joins (applied n ws)
+pub applied_joins : (n : List ℕ) → Joins (λ rest. name_word n ∷ rest) → (ws : List Writer)
+    → AllJoin ws → Joins (applied n ws)
 applied_joins n h [] k = h
 applied_joins n h (w ∷ ws) k =
-    let inside = bracketed (separated (mark_word (codes ",")) (w ∷ ws)) (separated_joins (codes ",") comma_parts w ws k) in record {
-      joined = λ rest j s. h.joined (in_brackets (separated (mark_word (codes ",")) (w ∷ ws)) rest) (inside.joined rest j s) (record { name = refl; digits = refl; done = refl });
+    let inside = bracketed (separated (mark_word (codes ",")) (w ∷ ws))
+    (separated_joins (codes ",") comma_parts w ws k) in record {
+      joined = λ rest j s. h.joined (in_brackets (separated (mark_word (codes ",")) (w ∷ ws)) rest)
+          (inside.joined rest j s) (record { name = refl; digits = refl; done = refl });
       begins = λ rest. h.begins (in_brackets (separated (mark_word (codes ",")) (w ∷ ws)) rest);
     }
 
@@ -93,7 +149,8 @@ quantified_joined m first d l body h rest j s =
     first (variable_word d ∷ closing) (
       inr (inr (inl refl)),
       done_ends (text (variable_word d ∷ closing)),
-      (variable_is d l).joins.joined closing closed (record { name = refl; digits = refl; done = refl }),
+      (variable_is d l).joins.joined closing closed
+          (record { name = refl; digits = refl; done = refl }),
     )
 
 pub for_all_joins : (d : ℕ) → d < 2 ^ 64 → (body : ℕ → Writer) → Joins (body (d + 1))
@@ -114,7 +171,8 @@ pub exists_joins : (d : ℕ) → d < 2 ^ 64 → (body : ℕ → Writer) → Join
 exists_joins d l body h = record {
   joined = quantified_joined (codes "?")
       (λ more k. (
-        inr (inr (inr (inr (inr (inr (inr (inr (inr (inr (inr (inr (inr (inr (inr (inr (inr (inr (inr
+        inr (inr (inr (inr (inr
+            (inr (inr (inr (inr (inr (inr (inr (inr (inr (inr (inr (inr (inr (inr
             (inl refl))))))))))))))))))),
         refl,
         k,
@@ -126,8 +184,12 @@ exists_joins d l body h = record {
 
 pub negated_joins : (w : Writer) → Joins w → Joins (λ rest. mark_word (codes "~") ∷ w rest)
 negated_joins w h = record {
-  joined = λ rest j s.
-      (inr (inr (inr (inr (inr (inr (inr (inr (inr (inl refl))))))))), h.begins rest, h.joined rest j s);
+  joined = λ rest j s. (
+    inr (inr (inr (inr (inr
+        (inr (inr (inr (inr (inl refl))))))))),
+    h.begins rest,
+    h.joined rest j s,
+  );
   begins = λ rest. refl;
 }
 
@@ -139,6 +201,14 @@ true_joins = record {
 
 pub false_joins : Joins (λ rest. dollar_word (codes "$false") ∷ rest)
 false_joins = record {
-  joined = λ rest j s. ((codes "false", (refl, (refl, (refl, (refl, (refl, tt))))), refl), s.name, j);
+  joined = λ rest j s. (
+    (
+      codes "false",
+      (refl, (refl, (refl, (refl, (refl, tt))))),
+      refl,
+    ),
+    s.name,
+    j,
+  );
   begins = λ rest. refl;
 }

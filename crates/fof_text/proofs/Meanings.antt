@@ -14,20 +14,24 @@ use Rattle.tptp_syntax.specs.declared.formula.RawFormula.{RawFormula, roll-RawFo
 use Rattle.tptp_syntax.specs.declared.formula.RawFormula.TheVariants as f
 use Rattle.tptp_syntax.specs.declared.formula.RawFormula.TheOpen.{RawFormula-F}
 use Rattle.tptp_syntax.specs.declared.formula.RawFormula.TheOpen as R
-use Rattle.tptp_syntax.specs.declared.formula.RawFormula.TheFolds.{fold-roll-RawFormula, map-RawFormula}
+use Rattle.tptp_syntax.specs.declared.formula.RawFormula.TheFolds.{fold-roll-RawFormula}
+use Rattle.tptp_syntax.specs.declared.formula.RawFormula.TheFolds.{map-RawFormula}
 use Rattle.fof_text.specs.Names.{place_of}
-use Rattle.fof_text.specs.Meaning.{term_meant, term_meant_step, formula_meant, formula_meant_step, bind, nothing}
+use Rattle.fof_text.specs.Meaning.{term_meant, term_meant_step, formula_meant, formula_meant_step}
+use Rattle.fof_text.specs.Meaning.{bind, nothing}
 
 module _ (names bound : List (List ℕ)) where
   term_roll : (x : RawTerm-F RawTerm) → term_meant names (roll-RawTerm x) bound
-      ≡ term_meant_step names (map-RawTerm RawTerm (List (List ℕ) → FofTerm) (term_meant names) x) bound
+      ≡ term_meant_step names
+      (map-RawTerm RawTerm (List (List ℕ) → FofTerm) (term_meant names) x) bound
   unfolding term_meant
   term_roll x =
       ap (λ (h : List (List ℕ) → FofTerm). h bound)
       (fold-roll-RawTerm (List (List ℕ) → FofTerm) (term_meant_step names) x)
 
   term_at : (r : RawTerm) (x : RawTerm-F RawTerm) → roll-RawTerm x ≡ r → term_meant names r bound
-      ≡ term_meant_step names (map-RawTerm RawTerm (List (List ℕ) → FofTerm) (term_meant names) x) bound
+      ≡ term_meant_step names
+      (map-RawTerm RawTerm (List (List ℕ) → FofTerm) (term_meant names) x) bound
   term_at r x e = ap (λ z. term_meant names z bound) (sym e) ∙ term_roll x
 
   pub term_meant-variable : (x : List ℕ)
@@ -35,14 +39,16 @@ module _ (names bound : List (List ℕ)) where
   term_meant-variable x = term_at _ (O.Variable x) (t.rolls-Variable x)
 
   pub term_meant-apply : (n : List ℕ) (ts : List RawTerm) → term_meant names (t.Apply n ts) bound
-      ≡ T.Apply (place_of names n) (map (λ (r : List (List ℕ) → FofTerm). r bound) (map (term_meant names) ts))
+      ≡ T.Apply (place_of names n)
+      (map (λ (r : List (List ℕ) → FofTerm). r bound) (map (term_meant names) ts))
   term_meant-apply n ts = term_at _ (O.Apply n ts) (t.rolls-Apply n ts)
 
   pub term_meant-individuals : term_meant names t.Individuals bound ≡ T.Apply (length names) []
   term_meant-individuals = term_at _ O.Individuals t.rolls-Individuals
 
   formula_roll : (x : RawFormula-F RawFormula) → formula_meant names (roll-RawFormula x) bound
-      ≡ formula_meant_step names (map-RawFormula RawFormula (List (List ℕ) → Fof) (formula_meant names) x) bound
+      ≡ formula_meant_step names
+      (map-RawFormula RawFormula (List (List ℕ) → Fof) (formula_meant names) x) bound
   unfolding formula_meant
   formula_roll x =
       ap (λ (h : List (List ℕ) → Fof). h bound)
@@ -50,7 +56,8 @@ module _ (names bound : List (List ℕ)) where
 
   formula_at : (r : RawFormula) (x : RawFormula-F RawFormula) → roll-RawFormula x ≡ r
       → formula_meant names r bound
-      ≡ formula_meant_step names (map-RawFormula RawFormula (List (List ℕ) → Fof) (formula_meant names) x) bound
+      ≡ formula_meant_step names
+      (map-RawFormula RawFormula (List (List ℕ) → Fof) (formula_meant names) x) bound
   formula_at r x e = ap (λ z. formula_meant names z bound) (sym e) ∙ formula_roll x
 
   pub formula_meant-true : formula_meant names f.True bound ≡ F.True
@@ -97,16 +104,19 @@ module _ (names bound : List (List ℕ)) where
   pub formula_meant-xor : (u v : RawFormula) → formula_meant names (f.Xor u v) bound ≡ nothing names
   formula_meant-xor u v = formula_at _ (R.Xor u v) (f.rolls-Xor u v)
 
-  pub formula_meant-nand : (u v : RawFormula) → formula_meant names (f.Nand u v) bound ≡ nothing names
+  pub formula_meant-nand : (u v : RawFormula)
+      → formula_meant names (f.Nand u v) bound ≡ nothing names
   formula_meant-nand u v = formula_at _ (R.Nand u v) (f.rolls-Nand u v)
 
   pub formula_meant-nor : (u v : RawFormula) → formula_meant names (f.Nor u v) bound ≡ nothing names
   formula_meant-nor u v = formula_at _ (R.Nor u v) (f.rolls-Nor u v)
 
   pub formula_meant-for_all : (xs : List Bound) (u : RawFormula)
-      → formula_meant names (f.ForAll xs u) bound ≡ bind names F.ForAll xs (formula_meant names u) bound
+      → formula_meant names (f.ForAll xs u) bound
+      ≡ bind names F.ForAll xs (formula_meant names u) bound
   formula_meant-for_all xs u = formula_at _ (R.ForAll xs u) (f.rolls-ForAll xs u)
 
   pub formula_meant-exists : (xs : List Bound) (u : RawFormula)
-      → formula_meant names (f.Exists xs u) bound ≡ bind names F.Exists xs (formula_meant names u) bound
+      → formula_meant names (f.Exists xs u) bound
+      ≡ bind names F.Exists xs (formula_meant names u) bound
   formula_meant-exists xs u = formula_at _ (R.Exists xs u) (f.rolls-Exists xs u)

@@ -1,5 +1,7 @@
 -- What the code sends for names, terms and formulas, case by case.
-use Rattle.std.proofs.Common.{◌≡◌, ◌+◌, ◌-◌, ◌≤◌, ◌<◌, ◌||◌, ◌==◌, if◌then◌else◌, ℕ, zero, suc, Bool, true, false, List, [], ◌∷◌, ◌++◌, map, length, take, refl, sym, ap, ◌∙◌, arith, append-nil, append_assoc}
+use Rattle.std.proofs.Common.{◌≡◌, ◌+◌, ◌-◌, ◌≤◌, ◌<◌, ◌||◌, ◌==◌, if◌then◌else◌, ℕ, zero, suc}
+use Rattle.std.proofs.Common.{Bool, true, false, List, [], ◌∷◌, ◌++◌, map, length, take, refl, sym}
+use Rattle.std.proofs.Common.{ap, ◌∙◌, arith, append-nil, append_assoc}
 use Rattle.std.specs.Prelude.{codes, decimal, get_or, eqb}
 use Rattle.std.proofs.lemmas.Bool.{eqb-false}
 use Rattle.std.proofs.lemmas.List.{length-map, length-take-le, map-append, take_all, take_more}
@@ -15,10 +17,14 @@ use Rattle.fof_models.specs.declared.formula.Fof.TheOpen as G
 use Rattle.fof_models.specs.declared.formula.Fof.TheFolds.{fold-roll-Fof, map-Fof}
 use Rattle.tptp_words.specs.Text.{escaped, single_quote}
 use Rattle.fof_text.specs.Names.{name_at}
-use Rattle.fof_text.specs.Written.{Writer, lower_word, quoted_word, is_lower, name_word, variable_word, applied, side_by_side, Both, term_words, term_words_step, formula_words, formula_words_step}
+use Rattle.fof_text.specs.Written.{Writer, lower_word, quoted_word, is_lower, name_word}
+use Rattle.fof_text.specs.Written.{variable_word, applied, side_by_side, Both, term_words}
+use Rattle.fof_text.specs.Written.{term_words_step, formula_words, formula_words_step}
 use Rattle.fof_text.specs.Sent.{part, between, in_row, in_row_from}
 use Rattle.fof_text.proofs.Trees.{formulas_by_layer}
-use Rattle.fof_text.proofs.Splits.{AllSplit, and_piece, or_piece, implies_piece, equals_piece, unequal_piece, all_piece, some_piece, brackets_part, chain_part, sides_part, sides_split, applied_part, quantified_part}
+use Rattle.fof_text.proofs.Splits.{AllSplit, and_piece, or_piece, implies_piece, equals_piece}
+use Rattle.fof_text.proofs.Splits.{unequal_piece, all_piece, some_piece, brackets_part, chain_part}
+use Rattle.fof_text.proofs.Splits.{sides_part, sides_split, applied_part, quantified_part}
 use Rattle.fof_text.proofs.WrittenSplits.{terms_split, all_terms_split, formulas_split}
 
 -- ---- parts in a row
@@ -65,7 +71,8 @@ row_end f piece us i l = ap (λ z. in_row piece (map f z)) (take_all i us l)
 pub name_part : (n : List ℕ) (v : Bool) → is_lower n ≡ v
     → part (λ rest. name_word n ∷ rest)
     ≡ (if v then n else single_quote ∷ (escaped single_quote n ++ single_quote ∷ []))
-name_part n v e = ap (λ u. part (λ rest. (if u then lower_word n else quoted_word n) ∷ rest)) e ∙ go v
+name_part n v e = ap (λ u. part (λ rest. (if u then lower_word n else quoted_word n) ∷ rest)) e
+    ∙ go v
   where
     go : (v : Bool) → part (λ rest. (if v then lower_word n else quoted_word n) ∷ rest)
         ≡ (if v then n else single_quote ∷ (escaped single_quote n ++ single_quote ∷ []))
@@ -140,7 +147,8 @@ module _ (names : List (List ℕ)) (d : ℕ) where
       let full : length ts ≡ 0 → ⊥ = eqb-false (length ts) 0 some in
       let long : 0 < length ws = omega (arith, full, length-map ts (λ t. term_words names t d)) in
       applied_part (name_at names f) ws (all_terms_split names ts d) long
-      ∙ ap (λ z. (front ++ in_row (codes ",") z) ++ codes ")") (map-map part (λ t. term_words names t d) ts)
+      ∙ ap (λ z. (front ++ in_row (codes ",") z) ++ codes ")")
+      (map-map part (λ t. term_words names t d) ts)
       ∙ ap (λ z. (front ++ z) ++ codes ")") (sym (row_end term_part (codes ",") ts i past))
 
   -- ---- formulas
@@ -163,7 +171,8 @@ module _ (names : List (List ℕ)) (d : ℕ) where
   at_is : (f : Fof) (x : Fof-F Fof) → f ≡ roll-Fof x → formula_part f ≡ part ((layer_of x).is d)
   at_is f x e = ap formula_part e ∙ ap (λ (b : Both). part (b.is d)) (roll x)
 
-  at_not : (f : Fof) (x : Fof-F Fof) → f ≡ roll-Fof x → negated_part f ≡ part ((layer_of x).negated d)
+  at_not : (f : Fof) (x : Fof-F Fof) → f ≡ roll-Fof x
+      → negated_part f ≡ part ((layer_of x).negated d)
   at_not f x e = ap negated_part e ∙ ap (λ (b : Both). part (b.negated d)) (roll x)
 
   pub true_is : (f : Fof) → f ≡ F.True → formula_part f ≡ codes "$true"
@@ -255,7 +264,8 @@ module _ (names : List (List ℕ)) (d : ℕ) where
   Prefixed f = NotEqual f → negated_part f ≡ codes "~" ++ formula_part f
 
   prefixed : (x : Fof-F Fof)
-      → part ((layer_of x).negated d) ≡ codes "~" ++ part ((layer_of x).is d) → Prefixed (roll-Fof x)
+      → part ((layer_of x).negated d) ≡ codes "~" ++ part ((layer_of x).is d)
+      → Prefixed (roll-Fof x)
   prefixed x h differs =
       at_not (roll-Fof x) x refl ∙ h ∙ ap (λ z. codes "~" ++ z) (sym (at_is (roll-Fof x) x refl))
 

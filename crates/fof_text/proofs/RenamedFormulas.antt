@@ -1,5 +1,6 @@
 -- A tree stands for two formulas, by two lists of names: both are true or both are false.
-use Rattle.std.proofs.Common.{◌≡◌, ℕ, ◌+◌, Bool, true, false, not, ◌&&◌, ◌||◌, if◌then◌else◌, List, [], ◌∷◌, length, map, refl, sym, ◌∙◌, ap, subst}
+use Rattle.std.proofs.Common.{◌≡◌, ℕ, ◌+◌, Bool, true, false, not, ◌&&◌, ◌||◌, if◌then◌else◌, List}
+use Rattle.std.proofs.Common.{[], ◌∷◌, length, map, refl, sym, ◌∙◌, ap, subst}
 use Rattle.std.specs.Prelude.{eqb}
 use Rattle.std.specs.List.{list_all, list_any, AllByRecursion}
 use Rattle.std.proofs.lemmas.Bool.{and_parts}
@@ -82,7 +83,8 @@ module _ (names others : List (List ℕ)) (g h : List FofSymbol) (one_each : len
   same_for_all {x} {y} q = record {
     here = λ d elements i j k.
         true_of.truth-for_all other_one y elements
-        ∙ all_below-same s.size (λ e. truth other_one y (e ∷ elements)) (λ e. truth s x (e ∷ elements))
+        ∙ all_below-same s.size (λ e. truth other_one y (e ∷ elements))
+        (λ e. truth s x (e ∷ elements))
         (λ e l. q.here (d + 1) (e ∷ elements) (sym (sound.is_formula-for_all g x d) ∙ i)
         (sym (sound.is_formula-for_all h y d) ∙ j) (bind_one e l k))
         ∙ sym (true_of.truth-for_all s x elements);
@@ -92,7 +94,8 @@ module _ (names others : List (List ℕ)) (g h : List FofSymbol) (one_each : len
   same_exists {x} {y} q = record {
     here = λ d elements i j k.
         true_of.truth-exists other_one y elements
-        ∙ some_below-same s.size (λ e. truth other_one y (e ∷ elements)) (λ e. truth s x (e ∷ elements))
+        ∙ some_below-same s.size (λ e. truth other_one y (e ∷ elements))
+        (λ e. truth s x (e ∷ elements))
         (λ e l. q.here (d + 1) (e ∷ elements) (sym (sound.is_formula-exists g x d) ∙ i)
         (sym (sound.is_formula-exists h y d) ∙ j) (bind_one e l k))
         ∙ sym (true_of.truth-exists s x elements);
@@ -121,7 +124,8 @@ module _ (names others : List (List ℕ)) (g h : List FofSymbol) (one_each : len
       there = bind others binder xs q (x.name ∷ bound)
 
       go : (v : Bool) → Same here there
-          → Same (if v then binder here else nothing names) (if v then binder there else nothing others)
+          → Same (if v then binder here else nothing names)
+          (if v then binder there else nothing others)
       go true k = b here there k
       go false k = same_nothing
 
@@ -160,7 +164,8 @@ module _ (names others : List (List ℕ)) (g h : List FofSymbol) (one_each : len
         let ys : List FofTerm = map (λ r. term_meant others r bound) rs in
         let i' = and_parts _ _ (sym (sound.is_formula-atom g (place_of names x) xs d) ∙ i) in
         let j' = and_parts _ _ (sym (sound.is_formula-atom h (place_of others x) ys d) ∙ j) in
-        let list = all_same names others g h one_each s structure bound d elements k rs (all_terms rs) i'.1 j'.1 in
+        let list = all_same names others g h one_each s structure bound d elements k rs
+        (all_terms rs) i'.1 j'.1 in
         true_of.truth-atom other_one (place_of others x) ys elements
         ∙ ap (λ z. eqb z 1)
         (symbol_same names others g h one_each s structure true x elements xs ys j'.0 i'.0 list).0
@@ -251,15 +256,18 @@ module _ (names others : List (List ℕ)) (g h : List FofSymbol) (one_each : len
       same_false)
   formula_layer (R.Atom n ts) =
       subst FormulaClaim (sym (f.rolls-Atom n ts)) (λ bound.
-      same_at (meant.formula_meant-atom names bound n ts) (meant.formula_meant-atom others bound n ts)
+      same_at (meant.formula_meant-atom names bound n ts)
+      (meant.formula_meant-atom others bound n ts)
       (same_atom n ts bound))
   formula_layer (R.Equal a b) =
       subst FormulaClaim (sym (f.rolls-Equal a b)) (λ bound.
-      same_at (meant.formula_meant-equal names bound a b) (meant.formula_meant-equal others bound a b)
+      same_at (meant.formula_meant-equal names bound a b)
+      (meant.formula_meant-equal others bound a b)
       (same_equal a b bound))
   formula_layer (R.Unequal a b) =
       subst FormulaClaim (sym (f.rolls-Unequal a b)) (λ bound.
-      same_at (meant.formula_meant-unequal names bound a b) (meant.formula_meant-unequal others bound a b)
+      same_at (meant.formula_meant-unequal names bound a b)
+      (meant.formula_meant-unequal others bound a b)
       (same_not (same_equal a b bound)))
   formula_layer (R.Not u) =
       subst FormulaClaim (sym (f.rolls-Not u.0)) (λ bound.
@@ -279,39 +287,48 @@ module _ (names others : List (List ℕ)) (g h : List FofSymbol) (one_each : len
       (same_or bound rs (every_claim us)))
   formula_layer (R.Implies u v) =
       subst FormulaClaim (sym (f.rolls-Implies u.0 v.0)) (λ bound.
-      same_at (meant.formula_meant-implies names bound u.0 v.0) (meant.formula_meant-implies others bound u.0 v.0)
+      same_at (meant.formula_meant-implies names bound u.0 v.0)
+      (meant.formula_meant-implies others bound u.0 v.0)
       (same_implies (u.1 bound) (v.1 bound)))
   formula_layer (R.If u v) =
       subst FormulaClaim (sym (f.rolls-If u.0 v.0)) (λ bound.
-      same_at (meant.formula_meant-if names bound u.0 v.0) (meant.formula_meant-if others bound u.0 v.0)
+      same_at (meant.formula_meant-if names bound u.0 v.0)
+      (meant.formula_meant-if others bound u.0 v.0)
       same_nothing)
   formula_layer (R.Iff u v) =
       subst FormulaClaim (sym (f.rolls-Iff u.0 v.0)) (λ bound.
-      same_at (meant.formula_meant-iff names bound u.0 v.0) (meant.formula_meant-iff others bound u.0 v.0)
+      same_at (meant.formula_meant-iff names bound u.0 v.0)
+      (meant.formula_meant-iff others bound u.0 v.0)
       same_nothing)
   formula_layer (R.Xor u v) =
       subst FormulaClaim (sym (f.rolls-Xor u.0 v.0)) (λ bound.
-      same_at (meant.formula_meant-xor names bound u.0 v.0) (meant.formula_meant-xor others bound u.0 v.0)
+      same_at (meant.formula_meant-xor names bound u.0 v.0)
+      (meant.formula_meant-xor others bound u.0 v.0)
       same_nothing)
   formula_layer (R.Nand u v) =
       subst FormulaClaim (sym (f.rolls-Nand u.0 v.0)) (λ bound.
-      same_at (meant.formula_meant-nand names bound u.0 v.0) (meant.formula_meant-nand others bound u.0 v.0)
+      same_at (meant.formula_meant-nand names bound u.0 v.0)
+      (meant.formula_meant-nand others bound u.0 v.0)
       same_nothing)
   formula_layer (R.Nor u v) =
       subst FormulaClaim (sym (f.rolls-Nor u.0 v.0)) (λ bound.
-      same_at (meant.formula_meant-nor names bound u.0 v.0) (meant.formula_meant-nor others bound u.0 v.0)
+      same_at (meant.formula_meant-nor names bound u.0 v.0)
+      (meant.formula_meant-nor others bound u.0 v.0)
       same_nothing)
   formula_layer (R.ForAll xs u) =
       subst FormulaClaim (sym (f.rolls-ForAll xs u.0)) (λ bound.
-      same_at (meant.formula_meant-for_all names bound xs u.0) (meant.formula_meant-for_all others bound xs u.0)
+      same_at (meant.formula_meant-for_all names bound xs u.0)
+      (meant.formula_meant-for_all others bound xs u.0)
       (same_bind F.ForAll (λ x y q. same_for_all q) (formula_meant names u.0)
       (formula_meant others u.0) u.1 xs bound))
   formula_layer (R.Exists xs u) =
       subst FormulaClaim (sym (f.rolls-Exists xs u.0)) (λ bound.
-      same_at (meant.formula_meant-exists names bound xs u.0) (meant.formula_meant-exists others bound xs u.0)
+      same_at (meant.formula_meant-exists names bound xs u.0)
+      (meant.formula_meant-exists others bound xs u.0)
       (same_bind F.Exists (λ x y q. same_exists q) (formula_meant names u.0)
       (formula_meant others u.0) u.1 xs bound))
 
   pub formulas_same : (r : RawFormula) → FormulaClaim r
   formulas_same =
-      ind-RawFormula FormulaClaim (λ x y is. subst (λ z. FormulaClaim (roll-RawFormula z)) is (formula_layer y))
+      ind-RawFormula FormulaClaim
+      (λ x y is. subst (λ z. FormulaClaim (roll-RawFormula z)) is (formula_layer y))

@@ -1,5 +1,6 @@
 -- A tree stands for two terms, by two lists of names: their values are the same.
-use Rattle.std.proofs.Common.{◌≡◌, ℕ, ◌<◌, Bool, true, false, cond, List, [], ◌∷◌, length, map, Option, Some, refl, sym, ◌∙◌, ap, subst, arith}
+use Rattle.std.proofs.Common.{◌≡◌, ℕ, ◌<◌, Bool, true, false, cond, List, [], ◌∷◌, length, map}
+use Rattle.std.proofs.Common.{Option, Some, refl, sym, ◌∙◌, ap, subst, arith}
 use Rattle.std.specs.Prelude.{replicate, slice_get}
 use Rattle.std.specs.List.{AllByRecursion}
 use Rattle.std.proofs.lemmas.Bool.{and_parts, ltb-true}
@@ -64,7 +65,8 @@ module _ (names others : List (List ℕ)) (g h : List FofSymbol) (one_each : len
       let args : List ℕ = map (value s elements) xs in
       let v : ℕ = s.symbol_at (place_of names x) args in
       let below = subst (λ n. EachBelow (replicate n s.size) args) (sym b.3) list.below in
-      let in_range : v < values_below b.0 s.size = structure.values (place_of names x) b.0 args b.1 below in
+      let in_range : v < values_below b.0 s.size =
+      structure.values (place_of names x) b.0 args b.1 below in
       let within : v < cond predicate 2 s.size = subst (λ p. v < cond p 2 s.size) b.2 in_range in
       let kept : kept_in s.size (Some c.0) v ≡ v =
       kept_value s.size c.0 v (subst (λ p. v < cond p 2 s.size) (sym c.2) within) in
@@ -92,7 +94,8 @@ module _ (names others : List (List ℕ)) (g h : List FofSymbol) (one_each : len
       let rest = all_same bound d elements k rs c.1 i'.1 j'.1 in
       record {
         same =
-            ap (λ z. z ∷ map (value other_one elements) (map (λ r. term_meant others r bound) rs)) first.0
+            ap (λ z. z ∷ map (value other_one elements)
+            (map (λ r. term_meant others r bound) rs)) first.0
             ∙ ap (λ z. value s elements (term_meant names r bound) ∷ z) rest.same;
         below = (first.1, rest.below);
       }
@@ -106,7 +109,8 @@ module _ (names others : List (List ℕ)) (g h : List FofSymbol) (one_each : len
       let l : place_of bound x < d =
       ltb-true _ _ (sym (is_term-variable g _ d) ∙ ap (λ z. is_term g z d) (sym e) ∙ i) in
       let v = ap (value s elements) e ∙ value-variable s elements (place_of bound x) in
-      let v' = ap (value other_one elements) e' ∙ value-variable other_one elements (place_of bound x) in
+      let v' = ap (value other_one elements) e'
+      ∙ value-variable other_one elements (place_of bound x) in
       let enough = k.enough in (
         v' ∙ sym v,
         subst (λ z. z < s.size) (sym v)
@@ -129,7 +133,8 @@ module _ (names others : List (List ℕ)) (g h : List FofSymbol) (one_each : len
       let list = all_same bound d elements k rs c i'.1 j'.1 in
       let r = symbol_same false x elements xs ys j'.0 i'.0 list in
       let v = ap (value s elements) e ∙ value-apply s elements (place_of names x) xs in
-      let v' = ap (value other_one elements) e' ∙ value-apply other_one elements (place_of others x) ys in
+      let v' = ap (value other_one elements) e'
+      ∙ value-apply other_one elements (place_of others x) ys in
       (v' ∙ r.0 ∙ sym v, subst (λ z. z < s.size) (sym v) r.1)
 
   -- no symbol has the length of the names as its place
@@ -152,7 +157,8 @@ module _ (names others : List (List ℕ)) (g h : List FofSymbol) (one_each : len
   all_claims [] = tt
   all_claims (k ∷ ks) = (k.1, all_claims ks)
 
-  term_layer : (y : RawTerm-F Kept) → TermClaim (roll-RawTerm (map-RawTerm Kept RawTerm (λ e. e.0) y))
+  term_layer : (y : RawTerm-F Kept)
+      → TermClaim (roll-RawTerm (map-RawTerm Kept RawTerm (λ e. e.0) y))
   term_layer (O.Variable x) = subst TermClaim (sym (t.rolls-Variable x)) (variable_case x)
   term_layer (O.Apply x ks) =
       subst TermClaim (sym (t.rolls-Apply x (map (λ (e : Kept). e.0) ks)))
@@ -160,4 +166,5 @@ module _ (names others : List (List ℕ)) (g h : List FofSymbol) (one_each : len
   term_layer O.Individuals = subst TermClaim (sym t.rolls-Individuals) individuals_case
 
   pub terms_same : (r : RawTerm) → TermClaim r
-  terms_same = ind-RawTerm TermClaim (λ x y is. subst (λ z. TermClaim (roll-RawTerm z)) is (term_layer y))
+  terms_same = ind-RawTerm TermClaim
+      (λ x y is. subst (λ z. TermClaim (roll-RawTerm z)) is (term_layer y))

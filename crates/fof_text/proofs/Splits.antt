@@ -1,8 +1,10 @@
 -- The text of a part does not depend on what follows.
-use Rattle.std.proofs.Common.{◌≡◌, ◌+◌, ◌<◌, ℕ, suc, List, [], ◌∷◌, ◌++◌, map, length, refl, sym, ap, ◌∙◌, arith, append-nil, append_assoc}
+use Rattle.std.proofs.Common.{◌≡◌, ◌+◌, ◌<◌, ℕ, suc, List, [], ◌∷◌, ◌++◌, map, length, refl, sym}
+use Rattle.std.proofs.Common.{ap, ◌∙◌, arith, append-nil, append_assoc}
 use Rattle.std.specs.Prelude.{codes}
 use Rattle.tptp_words.specs.Text.{Token}
-use Rattle.fof_text.specs.Written.{Writer, mark_word, name_word, variable_word, more, separated, in_brackets, applied, side_by_side, quantified, before, after}
+use Rattle.fof_text.specs.Written.{Writer, mark_word, name_word, variable_word, more, separated}
+use Rattle.fof_text.specs.Written.{in_brackets, applied, side_by_side, quantified, before, after}
 use Rattle.fof_text.specs.Sent.{part, in_row, in_row_from}
 use Rattle.fof_text.proofs.Spelled.{text}
 
@@ -131,7 +133,8 @@ applied_alone n ws e = ap (λ z. part (applied n z)) e
 
 pub applied_part : (n : List ℕ) (ws : List Writer) → AllSplit ws → 0 < length ws
     → part (applied n ws)
-    ≡ ((part (λ rest. name_word n ∷ rest) ++ codes "(") ++ in_row (codes ",") (map part ws)) ++ codes ")"
+    ≡ ((part (λ rest. name_word n ∷ rest) ++ codes "(") ++ in_row (codes ",")
+    (map part ws)) ++ codes ")"
 applied_part n [] h l = absurd (omega arith)
 applied_part n (w ∷ ws) h l =
     let inside = in_row (codes ",") (map part (w ∷ ws)) in
@@ -143,9 +146,11 @@ applied_part n (w ∷ ws) h l =
 
 -- ---- quantifiers
 
-pub quantified_part : (m : List ℕ) → IsPiece m m → (body : ℕ → Writer) (d : ℕ) → Splits (body (d + 1))
+pub quantified_part : (m : List ℕ) → IsPiece m m → (body : ℕ → Writer) (d : ℕ)
+    → Splits (body (d + 1))
     → part (quantified m body d)
-    ≡ (((m ++ codes "[") ++ part (λ rest. variable_word d ∷ rest)) ++ codes "]: ") ++ part (body (d + 1))
+    ≡ (((m ++ codes "[") ++ part (λ rest. variable_word d ∷ rest)) ++ codes "]: ") ++ part
+    (body (d + 1))
 quantified_part m p body d h =
     let name = part (λ rest. variable_word d ∷ rest) in
     let scope = part (body (d + 1)) in

@@ -1,11 +1,13 @@
 -- The text of a problem states the problem.
-use Rattle.std.proofs.Common.{◌≡◌, ◌+◌, ℕ, List, [], ◌∷◌, ◌++◌, length, map, None, refl, sym, ap, subst, arith, append_assoc}
+use Rattle.std.proofs.Common.{◌≡◌, ◌+◌, ℕ, List, [], ◌∷◌, ◌++◌, length, map, None, refl, sym, ap}
+use Rattle.std.proofs.Common.{subst, arith, append_assoc}
 use Rattle.std.specs.List.{AllByRecursion}
 use Rattle.std.proofs.Math.Nat.{le_refl}
 use Rattle.fof_models.specs.declared.problem.FofSymbol.{FofSymbol}
 use Rattle.fof_models.specs.declared.problem.FofFormula.{FofFormula}
 use Rattle.fof_models.specs.Sound.{IsSoundFormula}
-use Rattle.tptp_words.specs.Text.{Token, Placed, tokens, place, IsText, comment, AllPass, not_feed, percent, line_feed}
+use Rattle.tptp_words.specs.Text.{Token, Placed, tokens, place, IsText, comment, AllPass, not_feed}
+use Rattle.tptp_words.specs.Text.{percent, line_feed}
 use Rattle.tptp_words.specs.Layout.{placed_from}
 use Rattle.tptp_words.proofs.ReadBack as back
 use Rattle.tptp_phrases.specs.Phrase.{Row}
@@ -13,7 +15,8 @@ use Rattle.tptp_syntax.specs.declared.entry.Entry.{Entry}
 use Rattle.tptp_syntax.specs.Grammar.{entry, file}
 use Rattle.tptp_syntax.specs.Files.{strict, DeriveWithin, Derive}
 use Rattle.fof_text.specs.Names.{AllDiffer}
-use Rattle.fof_text.specs.Written.{comment_line, problem_words, formula_words, before, after, text_of}
+use Rattle.fof_text.specs.Written.{comment_line, problem_words, formula_words, before, after}
+use Rattle.fof_text.specs.Written.{text_of}
 use Rattle.fof_text.specs.States.{StandFor, IsWritable}
 use Rattle.fof_text.specs.Laws.{TextStatesItsProblem, CommentsChangeNothing}
 use Rattle.fof_text.proofs.RawTrees.{raw_formula}
@@ -37,14 +40,16 @@ module _ (names : List (List ℕ)) (g : List FofSymbol) (one_each : length names
       let few = s.binders in
       (formulas_read names g one_each differ writable f.body 0 (omega arith) s.typed s.pairs).0
 
-  all_joined : (fs : List FofFormula) → AreSound fs → AreWritable fs → Joined (problem_words names fs)
+  all_joined : (fs : List FofFormula) → AreSound fs → AreWritable fs
+      → Joined (problem_words names fs)
   all_joined [] s h = tt
   all_joined (f ∷ fs) s h =
       entry_joined names f h.0 (reads_of f s.0).joins (problem_words names fs)
       (all_joined fs s.1 h.1)
 
   all_written : (fs : List FofFormula) → AreSound fs → AreWritable fs
-      → Eventually (λ n. Row (entry (strict n)) (problem_words names fs) [] (map (raw_entry names) fs))
+      → Eventually (λ n. Row (entry (strict n)) (problem_words names fs) []
+      (map (raw_entry names) fs))
   all_written [] s h = always _ (λ n. refl)
   all_written (f ∷ fs) s h =
       weaker
@@ -93,7 +98,12 @@ states names p s h =
     record {
       sound = s;
       file = record { entries = entries };
-      spelled = (placed, read, subst (λ ws. Derive ws (record { entries = entries })) (sym same) derives);
+      spelled = (
+        placed,
+        read,
+        subst (λ ws. Derive ws (record { entries = entries }))
+            (sym same) derives,
+      );
       names = names;
       one_each = h.one_each;
       differ = h.differ;
@@ -139,5 +149,6 @@ comments_change_nothing body text p h s =
       stands = s.stands;
     }
   where
-    line_is : (body text : List ℕ) → percent ∷ (body ++ line_feed ∷ text) ≡ comment_line body ++ text
+    line_is : (body text : List ℕ)
+        → percent ∷ (body ++ line_feed ∷ text) ≡ comment_line body ++ text
     line_is body text = ap (λ z. percent ∷ z) (sym (append_assoc body (line_feed ∷ []) text))

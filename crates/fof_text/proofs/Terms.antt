@@ -1,5 +1,6 @@
 -- The words of a term derive a tree that stands for the term.
-use Rattle.std.proofs.Common.{◌≡◌, ℕ, zero, suc, ◌+◌, ◌-◌, ◌<◌, Bool, true, false, List, [], ◌∷◌, length, map, Option, Some, None, refl, sym, ◌∙◌, ap, subst, arith}
+use Rattle.std.proofs.Common.{◌≡◌, ℕ, zero, suc, ◌+◌, ◌-◌, ◌<◌, Bool, true, false, List, [], ◌∷◌}
+use Rattle.std.proofs.Common.{length, map, Option, Some, None, refl, sym, ◌∙◌, ap, subst, arith}
 use Rattle.std.specs.Prelude.{◌^◌, slice_get}
 use Rattle.std.specs.List.{list_all, AllByRecursion}
 use Rattle.std.proofs.lemmas.Bool.{and_parts, ltb-true}
@@ -19,7 +20,8 @@ use Rattle.tptp_syntax.specs.declared.term.RawTerm.TheVariants as t
 use Rattle.tptp_syntax.specs.Grammar.{Kind, term, term_rule}
 use Rattle.tptp_syntax.specs.Files.{strict}
 use Rattle.fof_text.specs.Names.{name_at, AllDiffer}
-use Rattle.fof_text.specs.Written.{Writer, applied, variable_word, variable_name, term_words, term_words_step}
+use Rattle.fof_text.specs.Written.{Writer, applied, variable_word, variable_name, term_words}
+use Rattle.fof_text.specs.Written.{term_words_step}
 use Rattle.fof_text.specs.Meaning.{term_meant}
 use Rattle.fof_text.specs.States.{IsWritable}
 use Rattle.fof_text.proofs.Places.{place_there, binders_of, variable_there}
@@ -28,7 +30,8 @@ use Rattle.fof_text.proofs.RawTrees.{raw_term, raw_term_step}
 use Rattle.fof_text.proofs.Meanings.{term_meant-variable, term_meant-apply}
 use Rattle.fof_text.proofs.Spelled.{Joins, name_is, variable_is}
 use Rattle.fof_text.proofs.Joins.{AllJoin, applied_joins}
-use Rattle.fof_text.proofs.Derives.{Eventually, always, both, deeper, Has, seq, give, take, one, other}
+use Rattle.fof_text.proofs.Derives.{Eventually, always, both, deeper, Has, seq, give, take, one}
+use Rattle.fof_text.proofs.Derives.{other}
 use Rattle.fof_text.proofs.Writers.{Writes, AllWrite, application_of}
 
 -- ---- phrases
@@ -116,7 +119,8 @@ module _ (names : List (List ℕ)) (g : List FofSymbol) (one_each : length names
       {r : RawTerm} {rs : List RawTerm} → TermReads d x w r → TermsRead d xs ws rs
       → TermsRead d (x ∷ xs) (w ∷ ws) (r ∷ rs)
   more_read {d} {x} {xs} {rs = rs} h k =
-      let tail = map (λ (h : List (List ℕ) → FofTerm). h (binders_of d)) (map (term_meant names) rs) in
+      let tail = map (λ (h : List (List ℕ) → FofTerm). h (binders_of d))
+      (map (term_meant names) rs) in
       record {
         writes = both h.writes k.writes;
         joins = (h.joins, k.joins);
@@ -159,7 +163,8 @@ module _ (names : List (List ℕ)) (g : List FofSymbol) (one_each : length names
 
   all_kept : (xs : List Kept) (d : ℕ) → d < 2 ^ 64
       → list_all (λ (p : ℕ → Bool). p d) (map (is_term g) (of_kept xs)) ≡ true
-      → TermsRead d (of_kept xs) (map (λ (w : ℕ → Writer). w d) (map (term_words names) (of_kept xs)))
+      → TermsRead d (of_kept xs)
+      (map (λ (w : ℕ → Writer). w d) (map (term_words names) (of_kept xs)))
       (map (λ (r : ℕ → RawTerm). r d) (map (raw_term names) (of_kept xs)))
   all_kept [] d l h = none_read d
   all_kept (x ∷ xs) d l h =

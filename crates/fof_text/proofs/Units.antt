@@ -12,13 +12,15 @@ use Rattle.tptp_syntax.specs.declared.formula.RawFormula.{RawFormula}
 use Rattle.tptp_syntax.specs.declared.formula.RawFormula.TheVariants as f
 use Rattle.tptp_syntax.specs.Grammar.{bound, formula_of, quantified, unit_rule}
 use Rattle.tptp_syntax.specs.Files.{strict}
-use Rattle.fof_text.specs.Written.{Writer, mark_word, dollar_word, separated, in_brackets, side_by_side, applied, variable_word, variable_name}
+use Rattle.fof_text.specs.Written.{Writer, mark_word, dollar_word, separated, in_brackets}
+use Rattle.fof_text.specs.Written.{side_by_side, applied, variable_word, variable_name}
 use Rattle.fof_text.specs.Written as written
 use Rattle.fof_text.specs.States.{IsWritable}
 use Rattle.fof_text.proofs.RawTrees.{untyped}
 use Rattle.fof_text.proofs.Spelled.{name_is, variable_is}
 use Rattle.fof_text.proofs.Derives.{Has, seq, give, take, one, other}
-use Rattle.fof_text.proofs.Writers.{Writes, AllWrite, sign_taken, list_of, application_of, chain_of, pair_of}
+use Rattle.fof_text.proofs.Writers.{Writes, AllWrite, sign_taken, list_of, application_of, chain_of}
+use Rattle.fof_text.proofs.Writers.{pair_of}
 use Rattle.fof_text.proofs.Terms.{term_at, argument_at, all_arguments}
 
 -- the phrase of units that have n levels below them
@@ -125,7 +127,8 @@ implies_unit n w v r s h k =
 
 quantified_phrase : (n : ℕ) (m : List ℕ) (make : List Bound → RawFormula → RawFormula) (d : ℕ)
     → d < 2 ^ 64 → (body : ℕ → Writer) (r : RawFormula) → Writes (unit_at n) (body (d + 1)) r
-    → Writes (quantified m make (bound Fof (strict (suc n))) (phrase.deeper (unit_rule Fof) (strict (suc n))))
+    → Writes (quantified m make (bound Fof (strict (suc n)))
+    (phrase.deeper (unit_rule Fof) (strict (suc n))))
     (written.quantified m body d) (make (untyped (variable_name d) ∷ []) r)
 quantified_phrase n m make d l body r h rest =
     let scope : List Token = body (d + 1) rest in

@@ -5,7 +5,8 @@ use Rattle.tptp_words.specs.Text.{Token}
 use Rattle.tptp_words.specs.Words.{only, name}
 use Rattle.tptp_phrases.specs.Phrase.{Phrase, ◌>>◌, Row}
 use Rattle.tptp_syntax.specs.Grammar.{sign, listed, arguments, application, chain, pair}
-use Rattle.fof_text.specs.Written.{Writer, mark_word, more, separated, in_brackets, side_by_side, applied, name_word}
+use Rattle.fof_text.specs.Written.{Writer, mark_word, more, separated, in_brackets, side_by_side}
+use Rattle.fof_text.specs.Written.{applied, name_word}
 use Rattle.fof_text.proofs.Places.{same_self}
 use Rattle.fof_text.proofs.Derives.{Has, seq, give, take, one, other, rows}
 

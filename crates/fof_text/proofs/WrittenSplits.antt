@@ -10,9 +10,11 @@ use Rattle.fof_models.specs.declared.formula.Fof.TheOpen.{Fof-F}
 use Rattle.fof_models.specs.declared.formula.Fof.TheOpen as G
 use Rattle.fof_models.specs.declared.formula.Fof.TheFolds.{fold-roll-Fof, map-Fof}
 use Rattle.fof_text.specs.Names.{name_at}
-use Rattle.fof_text.specs.Written.{Writer, mark_word, dollar_word, variable_word, plain, Both, term_words, term_words_step, formula_words, formula_words_step}
+use Rattle.fof_text.specs.Written.{Writer, mark_word, dollar_word, variable_word, plain, Both}
+use Rattle.fof_text.specs.Written.{term_words, term_words_step, formula_words, formula_words_step}
 use Rattle.fof_text.proofs.Trees.{terms_by_layer, formulas_by_layer}
-use Rattle.fof_text.proofs.Splits.{Splits, AllSplit, word_splits, word_then, separated_splits, brackets_split, sides_split, applied_splits, quantified_splits}
+use Rattle.fof_text.proofs.Splits.{Splits, AllSplit, word_splits, word_then, separated_splits}
+use Rattle.fof_text.proofs.Splits.{brackets_split, sides_split, applied_splits, quantified_splits}
 
 module _ (names : List (List ℕ)) where
   -- ---- terms
@@ -24,7 +26,8 @@ module _ (names : List (List ℕ)) where
   KeptTerm = (t : FofTerm) × TermClaim t
 
   term_rolled : (x : FofTerm-F FofTerm)
-      → ((d : ℕ) → Splits (term_words_step names (map-FofTerm FofTerm (ℕ → Writer) (term_words names) x) d))
+      → ((d : ℕ) → Splits (term_words_step names
+      (map-FofTerm FofTerm (ℕ → Writer) (term_words names) x) d))
       → TermClaim (roll-FofTerm x)
   unfolding term_words
   term_rolled x h =
@@ -32,7 +35,8 @@ module _ (names : List (List ℕ)) where
       (sym (fold-roll-FofTerm (ℕ → Writer) (term_words_step names) x)) h
 
   terms_kept : (ks : List KeptTerm) (d : ℕ)
-      → AllSplit (map (λ (u : ℕ → Writer). u d) (map (term_words names) (map (λ (e : KeptTerm). e.0) ks)))
+      → AllSplit (map (λ (u : ℕ → Writer). u d)
+      (map (term_words names) (map (λ (e : KeptTerm). e.0) ks)))
   terms_kept [] d = tt
   terms_kept (k ∷ ks) d = (k.1 d, terms_kept ks d)
 
@@ -76,7 +80,8 @@ module _ (names : List (List ℕ)) where
   rolled x h = subst BothSplit (sym (fold-roll-Fof Both (formula_words_step names) x)) h
 
   all_kept : (ks : List Kept) (d : ℕ)
-      → AllSplit (map (λ (b : Both). b.is d) (map (formula_words names) (map (λ (e : Kept). e.0) ks)))
+      → AllSplit (map (λ (b : Both). b.is d)
+      (map (formula_words names) (map (λ (e : Kept). e.0) ks)))
   all_kept [] d = tt
   all_kept (k ∷ ks) d = (k.1.is d, all_kept ks d)
 
@@ -93,19 +98,23 @@ module _ (names : List (List ℕ)) where
   layer (G.Not u) = rolled (G.Not u.0) (plain_splits _ u.1.negated)
   layer (G.And us) =
       rolled (G.And (map (λ (e : Kept). e.0) us))
-      (plain_splits _ (λ d. brackets_split _ (separated_splits (mark_word (codes "&")) _ (all_kept us d))))
+      (plain_splits _ (λ d. brackets_split _
+      (separated_splits (mark_word (codes "&")) _ (all_kept us d))))
   layer (G.Or us) =
       rolled (G.Or (map (λ (e : Kept). e.0) us))
-      (plain_splits _ (λ d. brackets_split _ (separated_splits (mark_word (codes "|")) _ (all_kept us d))))
+      (plain_splits _ (λ d. brackets_split _
+      (separated_splits (mark_word (codes "|")) _ (all_kept us d))))
   layer (G.Implies u v) =
       rolled (G.Implies u.0 v.0)
       (plain_splits _ (λ d. brackets_split _ (sides_split (codes "=>") _ _ (u.1.is d) (v.1.is d))))
   layer (G.ForAll u) =
       rolled (G.ForAll u.0)
-      (plain_splits _ (λ d. quantified_splits (codes "!") (formula_words names u.0).is d (u.1.is (d + 1))))
+      (plain_splits _ (λ d. quantified_splits (codes "!") (formula_words names u.0).is d
+      (u.1.is (d + 1))))
   layer (G.Exists u) =
       rolled (G.Exists u.0)
-      (plain_splits _ (λ d. quantified_splits (codes "?") (formula_words names u.0).is d (u.1.is (d + 1))))
+      (plain_splits _ (λ d. quantified_splits (codes "?") (formula_words names u.0).is d
+      (u.1.is (d + 1))))
 
   pub formulas_split : (f : Fof) → Claim f
   formulas_split = formulas_by_layer Claim layer

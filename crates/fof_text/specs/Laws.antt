@@ -13,7 +13,8 @@ use Rattle.fof_text.specs.Written.{comment_line, text_of}
 -- the text of a sound problem states it, where each symbol has a name of its own
 abbrev pub TextStatesItsProblem : Type 0
 TextStatesItsProblem =
-    (names : List (List ℕ)) (p : FofProblem) → IsSound p → AreNamed names p → States (text_of names p) p
+    (names : List (List ℕ)) (p : FofProblem) → IsSound p → AreNamed names p
+    → States (text_of names p) p
 
 -- a comment line in front of a text changes nothing of what the text states
 abbrev pub CommentsChangeNothing : Type 0

@@ -1,5 +1,6 @@
 -- What a tree stands for, as it is written: a term or formula over the symbols that have the names.
-use Rattle.std.specs.Prelude.{length, ℕ, Bool, true, false, if◌then◌else◌, List, [], ◌∷◌, map, Option, Some, None}
+use Rattle.std.specs.Prelude.{length, ℕ, Bool, true, false, if◌then◌else◌, List, [], ◌∷◌, map}
+use Rattle.std.specs.Prelude.{Option, Some, None}
 use Rattle.fof_models.specs.declared.formula.FofTerm.{FofTerm}
 use Rattle.fof_models.specs.declared.formula.FofTerm.TheVariants as T
 use Rattle.fof_models.specs.declared.formula.Fof.{Fof}
@@ -25,7 +26,8 @@ abbrev pub nothing : List (List ℕ) → Fof
 nothing names = F.Atom (length names) []
 
 -- one layer of what a term stands for
-abbrev pub term_meant_step : List (List ℕ) → RawTerm-F (List (List ℕ) → FofTerm) → List (List ℕ) → FofTerm
+abbrev pub term_meant_step : List (List ℕ) → RawTerm-F (List (List ℕ) → FofTerm) → List (List ℕ)
+    → FofTerm
 term_meant_step names (raw_term.Variable x) bound = T.Var (place_of bound x)
 term_meant_step names (raw_term.Apply n ts) bound =
     T.Apply (place_of names n) (map (λ (t : List (List ℕ) → FofTerm). t bound) ts)
@@ -41,18 +43,21 @@ is_untyped None = true
 is_untyped (Some kind) = false
 
 -- A binder for each of the variables. One that has a type is in no first-order formula.
-abbrev pub bind : List (List ℕ) → (Fof → Fof) → List Bound → (List (List ℕ) → Fof) → List (List ℕ) → Fof
+abbrev pub bind : List (List ℕ) → (Fof → Fof) → List Bound → (List (List ℕ) → Fof) → List (List ℕ)
+    → Fof
 bind names binder [] body bound = body bound
 bind names binder (x ∷ xs) body bound =
     if is_untyped x.kind then binder (bind names binder xs body (x.name ∷ bound)) else nothing names
 
 -- one layer of what a formula stands for
-abbrev pub formula_meant_step : List (List ℕ) → RawFormula-F (List (List ℕ) → Fof) → List (List ℕ) → Fof
+abbrev pub formula_meant_step : List (List ℕ) → RawFormula-F (List (List ℕ) → Fof) → List (List ℕ)
+    → Fof
 formula_meant_step names raw.True bound = F.True
 formula_meant_step names raw.False bound = F.False
 formula_meant_step names (raw.Atom n ts) bound =
     F.Atom (place_of names n) (map (λ t. term_meant names t bound) ts)
-formula_meant_step names (raw.Equal s t) bound = F.Equal (term_meant names s bound) (term_meant names t bound)
+formula_meant_step names (raw.Equal s t) bound =
+    F.Equal (term_meant names s bound) (term_meant names t bound)
 formula_meant_step names (raw.Unequal s t) bound =
     F.Not (F.Equal (term_meant names s bound) (term_meant names t bound))
 formula_meant_step names (raw.Not u) bound = F.Not (u bound)

@@ -26,11 +26,22 @@ in_row = in_row_from 0
 -- Bytes were to be sent by a run that was going or not, and is then going or not: the sink's bytes
 -- and faults before and after. A run that goes on has sent them all, one that failed now a prefix,
 -- and one that failed before sends nothing.
-abbrev pub Sent : Bool → Option (List ℕ) → Option (List ℕ) → ℕ → ℕ → Bool → List ℕ → Type 0
-Sent true old new faults_old faults_new true bytes =
+abbrev pub IsSent : Bool → Option (List ℕ) → Option (List ℕ) → ℕ → ℕ → Bool → List ℕ → Type 0
+IsSent true old new faults_old faults_new true bytes =
     Appends old new bytes × (faults_old ≤ faults_new)
-Sent true old new faults_old faults_new false bytes =
+IsSent true old new faults_old faults_new false bytes =
     AppendsPrefix old new bytes × Rose faults_old faults_new × (faults_old ≤ faults_new)
-Sent false old new faults_old faults_new true bytes = ⊥
-Sent false old new faults_old faults_new false bytes =
+IsSent false old new faults_old faults_new true bytes = ⊥
+IsSent false old new faults_old faults_new false bytes =
     Keeps old new × (faults_old ≤ faults_new)
+
+-- the same, in a form that shows all that it is about
+pub record Sent (going : Bool) (old new : Option (List ℕ)) (faults_old faults_new : ℕ)
+    (still : Bool) (bytes : List ℕ) : Type 0 where
+  pub it : IsSent going old new faults_old faults_new still bytes
+
+-- what a call did to a sink, by what the sink tells of its bytes and faults
+abbrev pub SentTo : {S : Type 0} → (S → Option (List ℕ)) → (S → ℕ) → Bool → S → S → Bool → List ℕ
+    → Type 0
+SentTo bytes faults going old new still piece =
+    Sent going (bytes old) (bytes new) (faults old) (faults new) still piece

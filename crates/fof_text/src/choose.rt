@@ -1,6 +1,7 @@
 //! The choice of names.
 
-ghost use Rattle.std.specs.Prelude.{◌≡◌, ◌≤◌, ◌<◌, ◌+◌, ◌^◌, IfOk, Some, true, false, [], length, List, ℕ};
+ghost use Rattle.std.specs.Prelude.{◌≡◌, ◌≤◌, ◌<◌, ◌+◌, ◌^◌, IfOk, Some, true, false, [], length};
+ghost use Rattle.std.specs.Prelude.{List, ℕ};
 ghost use Rattle.fof_text.specs.Names.{is_among, wanted_names};
 ghost use Rattle.fof_text.specs.Names as spec;
 ghost use Rattle.fof_text.specs.Uses.{use_at, IsChosen, IsFirstFree, Knows};
@@ -57,7 +58,10 @@ fn choose_wanted(
     uses: &mut BTreeMap<Vec<u8>, Use>,
     name: &[u8],
 ) -> Result<Name, NoMemory>
-    ensures { (wanted earlier : List (List ℕ)) → Knows wanted earlier uses.old → is_among earlier name.now ≡ false → IfOk result (IsChosen wanted earlier name.now uses.new) }
+    ensures { (wanted earlier : List (List ℕ)) →
+        Knows wanted earlier uses.old →
+        is_among earlier name.now ≡ false →
+        IfOk result (IsChosen wanted earlier name.now uses.new) }
 {
     let chosen = Name::from_slice(alloc, name)?;
     let key = key_of(alloc, name)?;
@@ -75,7 +79,13 @@ fn choose_numbered(
     limit: usize,
 ) -> Result<Name, NoMemory>
     requires { limit < 2 ^ 63 }
-    ensures { (wanted earlier : List (List ℕ)) (how : Use) → Knows wanted earlier uses.old → use_at uses.old name.now ≡ Some how → how.had ≡ true → how.next ≡ next → limit ≡ length earlier + length wanted → IfOk result (IsChosen wanted earlier name.now uses.new) }
+    ensures { (wanted earlier : List (List ℕ)) (how : Use) →
+        Knows wanted earlier uses.old →
+        use_at uses.old name.now ≡ Some how →
+        how.had ≡ true →
+        how.next ≡ next →
+        limit ≡ length earlier + length wanted →
+        IfOk result (IsChosen wanted earlier name.now uses.new) }
 {
     let number = free_number(alloc, uses, name, next, limit)?;
     let bytes = numbered(alloc, name, number)?;
@@ -101,7 +111,10 @@ pub(crate) fn choose_name(
     limit: usize,
 ) -> Result<Name, NoMemory>
     requires { limit < 2 ^ 63 }
-    ensures { (wanted earlier : List (List ℕ)) → Knows wanted earlier uses.old → limit ≡ length earlier + length wanted → IfOk result (IsChosen wanted earlier name.now uses.new) }
+    ensures { (wanted earlier : List (List ℕ)) →
+        Knows wanted earlier uses.old →
+        limit ≡ length earlier + length wanted →
+        IfOk result (IsChosen wanted earlier name.now uses.new) }
 {
     match use_of(uses, name) {
         Some(how) => {

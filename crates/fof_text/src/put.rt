@@ -2,13 +2,13 @@
 
 ghost use Rattle.std.specs.Prelude.{◌≡◌, [], ◌∷◌};
 ghost use Rattle.tptp_words.specs.Text.{escaped, single_quote};
-ghost use Rattle.fof_text.specs.Sent.{Sent, between};
+ghost use Rattle.fof_text.specs.Sent.{SentTo, between};
 
 use enc_base::Sink;
 
 /// Sends a piece, unless a write failed before. Tells whether no write has failed.
 pub(crate) fn put<O: Sink>(piece: &[u8], out: &mut O, going: bool) -> bool
-    ensures { Sent going (O.bytes out.old) (O.bytes out.new) (O.faults out.old) (O.faults out.new) result piece.now }
+    ensures { SentTo O.bytes O.faults going out.old out.new result piece.now }
 {
     if going {
         match out.write(piece) {
@@ -22,7 +22,7 @@ pub(crate) fn put<O: Sink>(piece: &[u8], out: &mut O, going: bool) -> bool
 
 /// Sends a piece, but not before the first of several parts.
 pub(crate) fn put_between<O: Sink>(index: usize, piece: &[u8], out: &mut O, going: bool) -> bool
-    ensures { Sent going (O.bytes out.old) (O.bytes out.new) (O.faults out.old) (O.faults out.new) result (between index piece.now) }
+    ensures { SentTo O.bytes O.faults going out.old out.new result (between index piece.now) }
 {
     if index == 0 {
         going
@@ -33,7 +33,7 @@ pub(crate) fn put_between<O: Sink>(index: usize, piece: &[u8], out: &mut O, goin
 
 /// Sends a byte of a quoted name, with a backslash before a quote or a backslash.
 pub(crate) fn put_byte<O: Sink>(byte: u8, out: &mut O, going: bool) -> bool
-    ensures { Sent going (O.bytes out.old) (O.bytes out.new) (O.faults out.old) (O.faults out.new) result (escaped single_quote (byte ∷ [])) }
+    ensures { SentTo O.bytes O.faults going out.old out.new result (escaped single_quote (byte ∷ [])) }
 {
     if byte == b'\'' || byte == b'\\' {
         put(&[b'\\', byte], out, going)
@@ -44,7 +44,7 @@ pub(crate) fn put_byte<O: Sink>(byte: u8, out: &mut O, going: bool) -> bool
 
 /// Sends the bytes of a quoted name.
 pub(crate) fn put_escaped<O: Sink>(bytes: &[u8], out: &mut O, mut going: bool) -> bool
-    ensures { Sent going (O.bytes out.old) (O.bytes out.new) (O.faults out.old) (O.faults out.new) result (escaped single_quote bytes.now) }
+    ensures { SentTo O.bytes O.faults going out.old out.new result (escaped single_quote bytes.now) }
 {
     for byte in bytes {
         going = put_byte(*byte, out, going);

@@ -4,4 +4,6 @@ use Rattle.fof_text.proofs.Sending.{then_sent, sent_as}
 use Rattle.fof_text.proofs.name.put_variable.Goals as goal
 
 pub returns : goal.returns
-returns g c = sent_as _ _ _ _ _ _ _ _ (ap (λ z. 88 ∷ z) (c.as_bytes.ensures.value ∙ c.format.ensures.text) ∙ sym (variable_part c.args.number)) (then_sent _ _ _ _ _ _ _ _ _ _ _ c.put-going.ensures c.put.ensures)
+returns g c = sent_as
+    (ap (λ z. 88 ∷ z) (c.as_bytes.ensures.value ∙ c.format.ensures.text)
+    ∙ sym (variable_part c.args.number)) (then_sent c.put-going.ensures c.put.ensures)

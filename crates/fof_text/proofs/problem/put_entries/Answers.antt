@@ -6,5 +6,7 @@ use Rattle.fof_text.proofs.problem.put_entries.Goals as goal
 
 pub loop-entry-preserved : goal.loop-entry-preserved
 loop-entry-preserved g c = λ small.
-    sent_as _ _ _ _ _ _ _ _ (sym (entry_next c.args.names.now c.args.entries.now c.loop-entry.entry-index c.entry-item.result c.loop-entry-test.true c.entry-item.is))
-    (then_sent _ _ _ _ _ _ _ _ _ _ _ (c.loop-entry.invariant small) (c.put_entry-going.ensures (entry_few c.args.entries.now c.loop-entry.entry-index c.entry-item.result c.loop-entry-test.true c.entry-item.is small)))
+    sent_as (sym (entry_next c.args.names.now c.args.entries.now c.loop-entry.entry-index c.entry-item.result c.loop-entry-test.true c.entry-item.is))
+    (then_sent (c.loop-entry.invariant small)
+    (c.put_entry-going.ensures
+    (entry_few c.args.entries.now c.loop-entry.entry-index c.entry-item.result c.loop-entry-test.true c.entry-item.is small)))

@@ -4,4 +4,6 @@ use Rattle.fof_text.proofs.Sending.{then_sent, sent_as}
 use Rattle.fof_text.proofs.put.put_escaped.Goals as goal
 
 pub loop-byte-preserved : goal.loop-byte-preserved
-loop-byte-preserved g c = sent_as _ _ _ _ _ _ _ _ (sym (escaped_next c.args.bytes.now c.loop-byte.byte-index c.loop-byte-test.true)) (then_sent _ _ _ _ _ _ _ _ _ _ _ c.loop-byte.invariant c.put_byte-going.ensures)
+loop-byte-preserved g c =
+    sent_as (sym (escaped_next c.args.bytes.now c.loop-byte.byte-index c.loop-byte-test.true))
+    (then_sent c.loop-byte.invariant c.put_byte-going.ensures)

@@ -1,4 +1,5 @@
-use Rattle.std.proofs.Common.{◌≡◌, ℕ, ◌+◌, ◌<◌, ◌^◌, ◌&&◌, true, List, [], ◌∷◌, ◌++◌, refl, sym, ap, ◌∙◌, subst, arith}
+use Rattle.std.proofs.Common.{◌≡◌, ℕ, ◌+◌, ◌<◌, ◌^◌, ◌&&◌, true, List, [], ◌∷◌, ◌++◌, refl, sym, ap}
+use Rattle.std.proofs.Common.{◌∙◌, subst, arith}
 use Rattle.std.proofs.lemmas.Bool.{and_from, lt-ltb}
 use Rattle.fof_models.specs.declared.formula.Fof.{Fof}
 use Rattle.fof_models.specs.declared.formula.Fof.TheVariants.{ForAll, Equal}
@@ -7,7 +8,9 @@ use Rattle.fof_models.specs.declared.problem.FofFormula.{FofFormula}
 use Rattle.fof_models.specs.declared.problem.FofRole.TheVariants.{Axiom}
 use Rattle.fof_models.specs.declared.problem.FofSymbol.{FofSymbol}
 use Rattle.fof_models.specs.Sound.{IsSound, IsSoundFormula, is_formula, has_pairs, binder_count}
-use Rattle.fof_models.proofs.Sound.{is_term-variable, is_formula-equal, is_formula-for_all, has_pairs-equal, has_pairs-for_all, binder_count-equal, binder_count-for_all}
+use Rattle.fof_models.proofs.Sound.{is_term-variable, is_formula-equal, is_formula-for_all}
+use Rattle.fof_models.proofs.Sound.{has_pairs-equal, has_pairs-for_all, binder_count-equal}
+use Rattle.fof_models.proofs.Sound.{binder_count-for_all}
 use Rattle.fof_text.proofs.tests.one_element.Goals as goal
 
 one : Fof
@@ -54,7 +57,15 @@ sound_problem signature formulas f e k b =
 pub returns-clause-sound : goal.returns-clause-sound
 unfolding one
 returns-clause-sound c =
-    let formula : FofFormula = record { name = c.in_ok-from_slice.field-0; role = Axiom; body = ForAll c.in_ok-body.body } in
+    let formula : FofFormula =
+    record {
+      name = c.in_ok-from_slice.field-0;
+      role = Axiom;
+      body =
+          ForAll c.in_ok-body.body;
+    } in
     sound_problem c.new-3.result c.push.new.self formula
-    c.new-3.ensures (c.in_ok-push.ensures.ok ∙ ap (λ (fs : List FofFormula). fs ++ formula ∷ []) c.new-formulas.ensures)
-    (ap ForAll (c.in_ok-body.ensures ∙ ap ForAll (c.in_ok-inner.ensures ∙ c.equal_variables.ensures)))
+    c.new-3.ensures (c.in_ok-push.ensures.ok
+    ∙ ap (λ (fs : List FofFormula). fs ++ formula ∷ []) c.new-formulas.ensures)
+    (ap ForAll (c.in_ok-body.ensures
+    ∙ ap ForAll (c.in_ok-inner.ensures ∙ c.equal_variables.ensures)))

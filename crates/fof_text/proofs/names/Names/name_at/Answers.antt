@@ -5,5 +5,7 @@ use Rattle.fof_text.proofs.names.Names.name_at.Goals as goal
 
 pub returns : goal.returns
 returns c =
-    sym (name_inside c.as_slice.result.now c.args.symbol c.index-as_slice-symbol.result (subst (λ ns. c.args.symbol < length ns) (sym c.as_slice.ensures) c.requires) c.index-as_slice-symbol.is)
+    sym (name_inside c.as_slice.result.now c.args.symbol c.index-as_slice-symbol.result
+    (subst (λ ns. c.args.symbol < length ns)
+    (sym c.as_slice.ensures) c.requires) c.index-as_slice-symbol.is)
     ∙ ap (λ ns. name_at ns c.args.symbol) c.as_slice.ensures
