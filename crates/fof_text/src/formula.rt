@@ -20,7 +20,9 @@ pub(crate) fn put_formula<O: Sink>(
     out: &mut O,
     going: bool,
 ) -> bool
-    ensures { depth + binder_count formula.now < 2 ^ 32 → SentTo O.bytes O.faults going out.old out.new result (part ((words.formula_words names.now formula.now).is depth)) }
+    ensures { depth + binder_count formula.now < 2 ^ 32 →
+        SentTo O.bytes O.faults going out.old out.new result
+        (part ((words.formula_words names.now formula.now).is depth)) }
 {
     match formula {
         Fof::True => put(b"$true", out, going),
@@ -58,7 +60,9 @@ fn put_negation<O: Sink>(
     out: &mut O,
     going: bool,
 ) -> bool
-    ensures { depth + binder_count formula.now < 2 ^ 32 → SentTo O.bytes O.faults going out.old out.new result (part ((words.formula_words names.now formula.now).negated depth)) }
+    ensures { depth + binder_count formula.now < 2 ^ 32 →
+        SentTo O.bytes O.faults going out.old out.new result
+        (part ((words.formula_words names.now formula.now).negated depth)) }
 {
     match formula {
         Fof::Equal(left, right) => put_sides(left, b" != ", right, depth, names, out, going),
@@ -79,7 +83,10 @@ fn put_quantified<O: Sink>(
     out: &mut O,
     going: bool,
 ) -> bool
-    ensures { depth + (binder_count inner.now + 1) < 2 ^ 32 → SentTo O.bytes O.faults going out.old out.new result (((piece.now ++ part (λ rest. words.variable_word depth ∷ rest)) ++ codes "]: ") ++ part ((words.formula_words names.now inner.now).is (depth + 1))) }
+    ensures { depth + (binder_count inner.now + 1) < 2 ^ 32 →
+        SentTo O.bytes O.faults going out.old out.new result
+        (((piece.now ++ part (λ rest. words.variable_word depth ∷ rest)) ++ codes "]: ")
+        ++ part ((words.formula_words names.now inner.now).is (depth + 1))) }
 {
     let going = put(piece, out, going);
     let going = put_variable(depth, out, going);
@@ -97,7 +104,11 @@ fn put_chain<O: Sink>(
     out: &mut O,
     going: bool,
 ) -> bool
-    ensures { depth + sum (map binder_count parts.now) < 2 ^ 32 → SentTo O.bytes O.faults going out.old out.new result ((codes "(" ++ in_row piece.now (map (λ u. part ((words.formula_words names.now u).is depth)) parts.now)) ++ codes ")") }
+    ensures { depth + sum (map binder_count parts.now) < 2 ^ 32 →
+        SentTo O.bytes O.faults going out.old out.new result
+        ((codes "("
+        ++ in_row piece.now
+        (map (λ u. part ((words.formula_words names.now u).is depth)) parts.now)) ++ codes ")") }
 {
     let mut going = put(b"(", out, going);
     for i in 0..parts.len() {

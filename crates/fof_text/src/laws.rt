@@ -1,6 +1,7 @@
 //! Laws over what a text states.
 
-ghost use Rattle.fof_text.specs.Laws.{ChosenNamesAreNames, CommentsChangeNothing, NumbersAreLeast, StatedProblemsHaveModelsTogether, TextStatesItsProblem};
+ghost use Rattle.fof_text.specs.Laws.{ChosenNamesAreNames, CommentsChangeNothing, NumbersAreLeast};
+ghost use Rattle.fof_text.specs.Laws.{StatedProblemsHaveModelsTogether, TextStatesItsProblem};
 
 /// The text of a sound problem states the problem, where each symbol has a name of its own.
 pub fn text_states_its_problem()

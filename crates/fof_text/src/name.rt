@@ -42,7 +42,8 @@ fn all_digits(bytes: &[u8]) -> bool
 
 /// Sends a name, in quotes unless it is a word as it is.
 fn put_word<O: Sink>(name: &[u8], out: &mut O, going: bool) -> bool
-    ensures { SentTo O.bytes O.faults going out.old out.new result (part (λ rest. words.name_word name.now ∷ rest)) }
+    ensures { SentTo O.bytes O.faults going out.old out.new result
+        (part (λ rest. words.name_word name.now ∷ rest)) }
 {
     if is_lower(name) {
         put(name, out, going)
@@ -55,7 +56,8 @@ fn put_word<O: Sink>(name: &[u8], out: &mut O, going: bool) -> bool
 
 /// Sends the name of a symbol.
 pub(crate) fn put_name<O: Sink>(symbol: u32, names: &[Name], out: &mut O, going: bool) -> bool
-    ensures { SentTo O.bytes O.faults going out.old out.new result (part (λ rest. words.name_word (name_at names.now symbol) ∷ rest)) }
+    ensures { SentTo O.bytes O.faults going out.old out.new result
+        (part (λ rest. words.name_word (name_at names.now symbol) ∷ rest)) }
 {
     let place = symbol as usize;
     if place < names.len() {
@@ -67,7 +69,8 @@ pub(crate) fn put_name<O: Sink>(symbol: u32, names: &[Name], out: &mut O, going:
 
 /// Sends the name of a formula, which may be digits alone.
 pub(crate) fn put_label<O: Sink>(name: &[u8], out: &mut O, going: bool) -> bool
-    ensures { SentTo O.bytes O.faults going out.old out.new result (part (λ rest. words.label_word name.now ∷ rest)) }
+    ensures { SentTo O.bytes O.faults going out.old out.new result
+        (part (λ rest. words.label_word name.now ∷ rest)) }
 {
     if !is_lower(name) && all_digits(name) {
         put(name, out, going)
@@ -78,7 +81,8 @@ pub(crate) fn put_label<O: Sink>(name: &[u8], out: &mut O, going: bool) -> bool
 
 /// Sends the variable of the binder that has so many binders around it.
 pub(crate) fn put_variable<O: Sink>(number: u32, out: &mut O, going: bool) -> bool
-    ensures { SentTo O.bytes O.faults going out.old out.new result (part (λ rest. words.variable_word number ∷ rest)) }
+    ensures { SentTo O.bytes O.faults going out.old out.new result
+        (part (λ rest. words.variable_word number ∷ rest)) }
 {
     let mut buffer = Buffer::new();
     let going = put(b"X", out, going);

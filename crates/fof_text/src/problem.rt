@@ -38,7 +38,9 @@ fn role_name(role: &FofRole) -> &'static [u8]
 
 /// Sends a formula with its name and role.
 fn put_entry<O: Sink>(entry: &FofFormula, names: &[Name], out: &mut O, going: bool) -> bool
-    ensures { binder_count entry.now.body < 2 ^ 32 → SentTo O.bytes O.faults going out.old out.new result (part (words.entry_words names.now entry.now)) }
+    ensures { binder_count entry.now.body < 2 ^ 32 →
+        SentTo O.bytes O.faults going out.old out.new result
+        (part (words.entry_words names.now entry.now)) }
 {
     let going = put(b"fof(", out, going);
     let going = put_label(entry.name.as_slice(), out, going);
@@ -56,7 +58,9 @@ pub(crate) fn put_entries<O: Sink>(
     out: &mut O,
     mut going: bool,
 ) -> bool
-    ensures { AllByRecursion (λ (f : FofFormula). binder_count f.body < 2 ^ 32) entries.now → SentTo O.bytes O.faults going out.old out.new result (written words.before words.after (words.problem_words names.now entries.now)) }
+    ensures { AllByRecursion (λ (f : FofFormula). binder_count f.body < 2 ^ 32) entries.now →
+        SentTo O.bytes O.faults going out.old out.new result
+        (written words.before words.after (words.problem_words names.now entries.now)) }
 {
     for entry in entries {
         going = put_entry(entry, names, out, going);
@@ -67,7 +71,8 @@ pub(crate) fn put_entries<O: Sink>(
 /// Sends all formulas of a problem.
 fn put_problem<O: Sink>(problem: &FofProblem, names: &Names, out: &mut O) -> bool
     requires { IsSound problem.now }
-    ensures { SentTo O.bytes O.faults true out.old out.new result (words.text_of names.now problem.now) }
+    ensures { SentTo O.bytes O.faults true out.old out.new result
+        (words.text_of names.now problem.now) }
 {
     put_entries(problem.formulas.as_slice(), names.as_slice(), out, true)
 }
@@ -83,9 +88,11 @@ pub fn write_problem<O: Sink>(
 ) -> Result<(), WriteFault>
     requires sound { IsSound problem.now }
     requires named { AreNamed names.now problem.now }
-    ensures exact { OnOk result (Appends (O.bytes out.old) (O.bytes out.new) (words.text_of names.now problem.now)) }
+    ensures exact { OnOk result
+        (Appends (O.bytes out.old) (O.bytes out.new) (words.text_of names.now problem.now)) }
     ensures cause { OnErr result (Rose (O.faults out.old) (O.faults out.new)) }
-    ensures within { OnErr result (AppendsPrefix (O.bytes out.old) (O.bytes out.new) (words.text_of names.now problem.now)) }
+    ensures within { OnErr result
+        (AppendsPrefix (O.bytes out.old) (O.bytes out.new) (words.text_of names.now problem.now)) }
 {
     if put_problem(problem, names, out) {
         Ok(())

@@ -33,7 +33,8 @@ pub(crate) fn put_between<O: Sink>(index: usize, piece: &[u8], out: &mut O, goin
 
 /// Sends a byte of a quoted name, with a backslash before a quote or a backslash.
 pub(crate) fn put_byte<O: Sink>(byte: u8, out: &mut O, going: bool) -> bool
-    ensures { SentTo O.bytes O.faults going out.old out.new result (escaped single_quote (byte ∷ [])) }
+    ensures { SentTo O.bytes O.faults going out.old out.new result
+        (escaped single_quote (byte ∷ [])) }
 {
     if byte == b'\'' || byte == b'\\' {
         put(&[b'\\', byte], out, going)
@@ -44,7 +45,8 @@ pub(crate) fn put_byte<O: Sink>(byte: u8, out: &mut O, going: bool) -> bool
 
 /// Sends the bytes of a quoted name.
 pub(crate) fn put_escaped<O: Sink>(bytes: &[u8], out: &mut O, mut going: bool) -> bool
-    ensures { SentTo O.bytes O.faults going out.old out.new result (escaped single_quote bytes.now) }
+    ensures { SentTo O.bytes O.faults going out.old out.new result
+        (escaped single_quote bytes.now) }
 {
     for byte in bytes {
         going = put_byte(*byte, out, going);

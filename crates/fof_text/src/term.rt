@@ -13,7 +13,8 @@ use fof_models::FofTerm;
 /// Sends a term that stands under `depth` binders.
 #[cycle(terms)]
 fn put_term<O: Sink>(term: &FofTerm, depth: u32, names: &[Name], out: &mut O, going: bool) -> bool
-    ensures { SentTo O.bytes O.faults going out.old out.new result (part (words.term_words names.now term.now depth)) }
+    ensures { SentTo O.bytes O.faults going out.old out.new result
+        (part (words.term_words names.now term.now depth)) }
 {
     match term {
         FofTerm::Var(index) => put_variable(
@@ -42,7 +43,9 @@ pub(crate) fn put_applied<O: Sink>(
     out: &mut O,
     going: bool,
 ) -> bool
-    ensures { SentTo O.bytes O.faults going out.old out.new result (part (words.applied (name_at names.now symbol) (map (λ t. words.term_words names.now t depth) terms.now))) }
+    ensures { SentTo O.bytes O.faults going out.old out.new result
+        (part (words.applied (name_at names.now symbol)
+        (map (λ t. words.term_words names.now t depth) terms.now))) }
 {
     let mut going = put_name(symbol, names, out, going);
     if terms.is_empty() {
@@ -66,7 +69,9 @@ pub(crate) fn put_sides<O: Sink>(
     out: &mut O,
     going: bool,
 ) -> bool
-    ensures { SentTo O.bytes O.faults going out.old out.new result ((part (words.term_words names.now left.now depth) ++ piece.now) ++ part (words.term_words names.now right.now depth)) }
+    ensures { SentTo O.bytes O.faults going out.old out.new result
+        ((part (words.term_words names.now left.now depth) ++ piece.now)
+        ++ part (words.term_words names.now right.now depth)) }
 {
     let going = put_term(left, depth, names, out, going);
     let going = put(piece, out, going);

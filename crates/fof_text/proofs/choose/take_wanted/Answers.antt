@@ -14,7 +14,8 @@ loop-symbol-preserved c =
     subst (λ z. IsSet c.loop-symbol.uses z (record { had = false; next = 0 }) c.take.new.uses)
     (c.in_ok-key.ensures ∙ c.as_slice.ensures) c.in_ok-take.ensures in
     subst (λ z. Knows z [] c.take.new.uses)
-    (sym (wanted-take c.args.signature.now c.loop-symbol.symbol-index symbol c.loop-symbol-test.true c.symbol-item.is))
+    (sym (wanted-take c.args.signature.now c.loop-symbol.symbol-index symbol
+    c.loop-symbol-test.true c.symbol-item.is))
     (known_wanted (wanted_names front) symbol.wanted
     (record { had = false; next = 0 }) c.loop-symbol.uses
     c.take.new.uses c.loop-symbol.invariant set refl refl)

@@ -9,9 +9,11 @@ pub returns-then-place-names : goal.returns-then-place-names
 returns-then-place-names g c =
     sent_as (ap (λ n. part (λ rest. name_word n ∷ rest))
     (c.as_slice.ensures ∙ sym
-    (name_inside c.args.names.now c.args.symbol c.index-names-place.result c.if-place-names.true c.index-names-place.is))) c.put_word.ensures
+    (name_inside c.args.names.now c.args.symbol c.index-names-place.result c.if-place-names.true
+    c.index-names-place.is))) c.put_word.ensures
 
 pub returns-else-place-names : goal.returns-else-place-names
 returns-else-place-names g c =
     sent_as (ap (λ n. part (λ rest. name_word n ∷ rest))
-    (sym (name_outside c.args.names.now c.args.symbol c.if-place-names.false))) c.put_word-else-place-names.ensures
+    (sym (name_outside c.args.names.now c.args.symbol c.if-place-names.false)))
+    c.put_word-else-place-names.ensures

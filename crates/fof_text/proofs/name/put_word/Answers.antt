@@ -11,4 +11,5 @@ returns-then-is_lower g c =
 pub returns-else-is_lower : goal.returns-else-is_lower
 returns-else-is_lower g c =
     sent_as (sym (name_part c.args.name.now false (sym c.is_lower.ensures ∙ c.if-is_lower.false)))
-    (then_sent (then_sent c.put-going.ensures c.put_escaped-going.ensures) c.put-else-is_lower.ensures)
+    (then_sent (then_sent c.put-going.ensures c.put_escaped-going.ensures)
+    c.put-else-is_lower.ensures)

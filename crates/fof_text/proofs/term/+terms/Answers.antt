@@ -25,11 +25,13 @@ put_term-returns-in-Var g t c =
 pub put_applied-loop-i-preserved : goal.put_applied-loop-i-preserved
 put_applied-loop-i-preserved g t c =
     sent_as (sym (row_next (term_part c.args.names.now c.args.depth)
-    (codes ",") c.args.terms.now c.loop-i.i c.index-terms-i.result c.loop-i-test.true c.index-terms-i.is))
+    (codes ",") c.args.terms.now c.loop-i.i c.index-terms-i.result c.loop-i-test.true
+    c.index-terms-i.is))
     (then_sent (then_sent c.loop-i.invariant c.put_between-going.ensures) c.put_term-going.ensures)
 
 pub put_applied-returns : goal.put_applied-returns
 put_applied-returns g t c =
-    sent_as (sym (applied_end c.args.names.now c.args.depth c.args.symbol c.args.terms.now c.loop-i.i (sym c.is_empty.ensures ∙ c.if-is_empty.false) c.loop-i-test.false))
+    sent_as (sym (applied_end c.args.names.now c.args.depth c.args.symbol c.args.terms.now
+    c.loop-i.i (sym c.is_empty.ensures ∙ c.if-is_empty.false) c.loop-i-test.false))
     (then_sent (then_sent
     (then_sent c.put_name-going.ensures c.put-going.ensures) c.loop-i.invariant) c.put.ensures)

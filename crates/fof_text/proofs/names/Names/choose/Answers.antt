@@ -31,7 +31,8 @@ loop-i-preserved c =
     (subst (λ z. AreChosen wanted
     (wanted_names front ++ symbol.wanted ∷ []) z c.choose_name.new.uses)
     (sym c.in_ok-push.ensures.ok)
-    (one_more wanted (wanted_names front) c.loop-i.names c.loop-i.uses c.choose_name.new.uses symbol.wanted
+    (one_more wanted (wanted_names front) c.loop-i.names c.loop-i.uses
+    c.choose_name.new.uses symbol.wanted
     c.in_ok-name.name c.loop-i.invariant chosen))
 
 pub returns-clause-differ : goal.returns-clause-differ
