@@ -8,3 +8,4 @@ pub mod Repetition
 pub mod Levels
 pub mod Limits
 pub mod Balance
+pub mod Turns

@@ -1,6 +1,11 @@
 -- The readers of whole types and of declarations read them.
 use Rattle.std.proofs.Common.{◌≡◌, ℕ, zero, suc, List, [], ◌∷◌, Bool, true, false, ◌||◌, length}
-use Rattle.std.proofs.Common.{Option, Some, None, refl}
+use Rattle.std.proofs.Common.{Option, Some, None, refl, ◌<◌, ◌≤◌, ◌-◌, Err}
+use Rattle.tptp_words.specs.Scanning.{Left}
+use Rattle.tptp_phrases.specs.Readers.{behind, limit_cause, seen}
+use Rattle.tptp_phrases.proofs.Repetition.{Repeats}
+use Rattle.tptp_phrases.proofs.Turns.{no_level, some_level}
+use Rattle.tptp_syntax.proofs.SharedRules.{after_commas, repeats_behind}
 use Rattle.std.specs.Prelude.{codes}
 use Rattle.tptp_words.specs.Text.{Token}
 use Rattle.tptp_words.specs.Words.{name, variable, mark, dollar}
@@ -132,6 +137,42 @@ pub reads_type_inside : (b k : ℕ)
 unfolding type_inside
 reads_type_inside b k = reads_deeper _ _ _ _ _ type_reads_rule b k
 
+-- ---- the loops and the limit of types
+
+abbrev inner_unit : Kind → Phrase TypeExpr
+inner_unit i = unit_type (deeper type_rule i 1) i
+
+pub types_after_commas : (b : ℕ) → Repeats (λ i. sign (codes ",") >> deeper type_rule i 1)
+    (sees (codes ",")) (sees (codes ",")) no_strays goes_type (or_comma goes_type) b
+    (behind (mark (codes ",")) (type_inside b 1))
+types_after_commas b =
+    after_commas (λ i. deeper type_rule i 1) goes_type b (type_inside b 1)
+    (mark_apart (codes ",") goes_type refl) (reads_type_inside b 1)
+
+pub parts_after_stars : (b : ℕ) → Repeats (λ i. sign (codes "*") >> inner_unit i)
+    (sees (codes "*")) (sees (codes "*")) no_strays left goes_product b
+    (behind (mark (codes "*")) (unit_type_at (type_inside b 1)))
+parts_after_stars b =
+    repeats_behind (codes "*") inner_unit left goes_product b (unit_type_at (type_inside b 1))
+    (mark_apart (codes "*") left refl) (within_second (sees (codes "*")) left)
+    (inside_first (sees (codes "*")) left)
+    (reads_unit_type (λ i. deeper type_rule i 1) b (type_inside b 1) (reads_type_inside b 1))
+
+pub variables_after_commas : Repeats (λ (i : Kind). sign (codes ",") >> type_variable)
+    (sees (codes ",")) (sees (codes ",")) no_strays never (or_comma never) 0
+    (behind (mark (codes ",")) type_variable_at)
+variables_after_commas =
+    after_commas (λ _. type_variable) never 0 type_variable_at (λ w e. refl) (reads_type_variable 0)
+
+pub no_type_inside : (n k : ℕ) → 0 < k → n < k → (s : Left)
+    → type_inside n k s ≡ Err (limit_cause opens_type stray_type (seen s), s)
+unfolding type_inside
+no_type_inside n k h i s = no_level opens_type stray_type type_rule_at n k h i s
+
+pub some_type_inside : (n k : ℕ) → 0 < k → k ≤ n → type_inside n k ≡ type_at (n - k)
+unfolding type_inside type_at
+some_type_inside n k h i = some_level opens_type stray_type type_rule_at n k h i
+
 -- ---- declarations
 
 module _ (inside : Kind → ℕ → Phrase (List ℕ × TypeExpr)) where
@@ -164,7 +205,7 @@ module _ (inside : Kind → ℕ → Phrase (List ℕ × TypeExpr)) where
         (reads_bracketed (λ i. inside i 1) goes_type goes_type b (q 1)
         (mark_apart (codes ")") goes_type refl) (h 1))
 
-declaration_reads_rule : ReadsRule declaration_rule opens_declaration no_strays goes_type
+pub declaration_reads_rule : ReadsRule declaration_rule opens_declaration no_strays goes_type
     declaration_rule_at
 declaration_reads_rule = record {
   starts = starts_declaration_rule;
@@ -179,3 +220,20 @@ same_declaration i = same_path _ _ refl
 pub reads_declaration : (b : ℕ) → Reading declaration goes_type b (declaration_at b)
 unfolding declaration_at declaration_inside
 reads_declaration b = reads_same same_declaration (reads_nested _ _ _ _ _ declaration_reads_rule b)
+
+pub reads_declaration_inside : (b k : ℕ)
+    → Reading (λ i. deeper declaration_rule i k) goes_type b (declaration_inside b k)
+unfolding declaration_inside
+reads_declaration_inside b k = reads_deeper _ _ _ _ _ declaration_reads_rule b k
+
+pub no_declaration_inside : (n k : ℕ) → 0 < k → n < k → (s : Left)
+    → declaration_inside n k s ≡ Err (limit_cause opens_declaration no_strays (seen s), s)
+unfolding declaration_inside
+no_declaration_inside n k h i s =
+    no_level opens_declaration no_strays declaration_rule_at n k h i s
+
+pub some_declaration_inside : (n k : ℕ) → 0 < k → k ≤ n
+    → declaration_inside n k ≡ declaration_at (n - k)
+unfolding declaration_inside declaration_at
+some_declaration_inside n k h i =
+    some_level opens_declaration no_strays declaration_rule_at n k h i

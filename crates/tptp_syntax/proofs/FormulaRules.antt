@@ -2,6 +2,15 @@
 use Rattle.std.proofs.Common.{◌≡◌, ℕ, zero, suc, List, [], ◌∷◌, Bool, true, false, ◌||◌, length}
 use Rattle.std.proofs.Common.{Option, Some, None, refl}
 use Rattle.std.specs.Prelude.{codes}
+use Rattle.std.proofs.Common.{◌<◌, ◌≤◌, ◌-◌, ◌+◌, Err, inl, inr, sym, ap, subst}
+use Rattle.tptp_words.specs.Scanning.{Left}
+use Rattle.tptp_phrases.specs.Readers.{behind, limit_cause, seen}
+use Rattle.tptp_phrases.proofs.Repetition.{Repeats}
+use Rattle.tptp_phrases.proofs.Turns.{no_level, some_level, top_level}
+use Rattle.tptp_syntax.specs.declared.fixed.Fixed.{Fixed}
+use Rattle.tptp_syntax.specs.Ahead.{IsJoining}
+use Rattle.tptp_syntax.specs.Ahead.{fixed as fixed_word}
+use Rattle.tptp_syntax.proofs.SharedRules.{after_commas, repeats_behind}
 use Rattle.tptp_words.specs.Text.{Token}
 use Rattle.tptp_words.specs.Words.{name, variable, mark, dollar}
 use Rattle.tptp_phrases.specs.Phrase.{Phrase, Variant, empty, word, stray, ◌>>=◌, ◌>>◌, ◌or◌, many}
@@ -270,3 +279,52 @@ pub reads_formula : (l : Language) (b : ℕ) → Reading (formula l) goes_formul
 unfolding formula_at
 reads_formula l b =
     reads_same (same_formulas l) (reads_formula_of (nested (unit_rule l)) b (unit_at l b) (reads_unit l b))
+
+-- ---- the loops and the limit of formulas
+
+pub bounds_after_commas : (l : Language) (b : ℕ) → Repeats (λ i. sign (codes ",") >> bound l i)
+    (sees (codes ",")) (sees (codes ",")) no_strays goes_bound (or_comma goes_bound) b
+    (behind (mark (codes ",")) (bound_at l b))
+bounds_after_commas l b =
+    after_commas (bound l) goes_bound b (bound_at l b) (mark_apart (codes ",") goes_bound refl)
+    (reads_bound l b)
+
+abbrev inner_unit : Language → Kind → Phrase RawFormula
+inner_unit l i = deeper (unit_rule l) i 1
+
+units_behind : (l : Language) (b : ℕ) (m : List ℕ) → Apart (sees m) goes_unit
+    → Inside (sees m) goes_formula
+    → Repeats (λ i. sign m >> inner_unit l i) (sees m) (sees m) no_strays goes_unit goes_formula b
+    (behind (mark m) (unit_inside l b 1))
+units_behind l b m a j =
+    repeats_behind m (inner_unit l) goes_unit goes_formula b (unit_inside l b 1) a
+    (within_second joins goes_unit) j (reads_unit_inside l b 1)
+
+abbrev pub Units : Language → ℕ → Fixed → Type 0
+Units l b w =
+    Repeats (λ i. word (fixed_word w) >> inner_unit l i) (takes (fixed_word w)) (takes (fixed_word w))
+    no_strays goes_unit goes_formula b (behind (fixed_word w) (unit_inside l b 1))
+
+pub units_after : (l : Language) (b : ℕ) (w : Fixed) → IsJoining w → Units l b w
+units_after l b w (inl e) =
+    subst (λ z. Units l b z) (sym e)
+    (units_behind l b (codes "&") (mark_apart (codes "&") goes_unit refl)
+    (mark_inside (codes "&") goes_formula refl))
+units_after l b w (inr e) =
+    subst (λ z. Units l b z) (sym e)
+    (units_behind l b (codes "|") (mark_apart (codes "|") goes_unit refl)
+    (mark_inside (codes "|") goes_formula refl))
+
+pub no_unit_inside : (l : Language) (n k : ℕ) → 0 < k → n < k → (s : Left)
+    → unit_inside l n k s ≡ Err (limit_cause opens_unit stray_term (seen s), s)
+unfolding unit_inside
+no_unit_inside l n k h i s = no_level opens_unit stray_term (unit_rule_at l) n k h i s
+
+pub some_unit_inside : (l : Language) (n k : ℕ) → 0 < k → k ≤ n
+    → unit_inside l n k ≡ unit_at l (n - k)
+unfolding unit_inside unit_at
+some_unit_inside l n k h i = some_level opens_unit stray_term (unit_rule_at l) n k h i
+
+pub top_formula : (l : Language) (n : ℕ) → formula_at_of (unit_inside l (n + 1) 1) ≡ formula_at l n
+unfolding unit_inside unit_at formula_at
+top_formula l n = ap formula_at_of (top_level opens_unit stray_term (unit_rule_at l) n)

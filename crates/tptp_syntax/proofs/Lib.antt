@@ -7,3 +7,5 @@ pub mod FormulaRules
 pub mod EntryRules
 pub mod SameTexts
 pub mod WholeFile
+pub mod Taken
+pub mod ListsRead

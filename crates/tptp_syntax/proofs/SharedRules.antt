@@ -11,6 +11,7 @@ use Rattle.tptp_phrases.specs.Readers as d
 use Rattle.tptp_phrases.proofs.Outcomes.{Reading, Starts, Opens, Follows, Apart, Within, Inside, never}
 use Rattle.tptp_phrases.proofs.Sequences.{reads_then, reads_give}
 use Rattle.tptp_phrases.proofs.Forms.{Same, reads_same, starts_same, opens_same, factor, same_map}
+use Rattle.tptp_phrases.proofs.Forms.{same_trans, same_assoc, same_then}
 use Rattle.tptp_phrases.proofs.Firsts.{opens_word, opens_bind, starts_bind, follows_never, follows_empty}
 use Rattle.tptp_phrases.proofs.Firsts.{follows_or, follows_starts}
 use Rattle.tptp_phrases.proofs.Choices.{reads_word_then, reads_to_word, starts_word_then, reads_optional}
@@ -119,15 +120,23 @@ module _ {A T : Type 0} (m : List ℕ) (make : List A → T) (p : Kind → Phras
   pub starts_chained : Starts chained (sees m) no_strays
   starts_chained = starts_word_then (mark m) _ no_strays
 
+  same_chained : (i : Kind)
+      → Same ((sign m >> (p i >>= λ x. more (sign m >> p i) (a ∷ x ∷ []))) >>= λ all. empty (make all))
+      (chained i)
+  same_chained i =
+      same_trans (same_assoc (sign m) _ (λ all. empty (make all)))
+      (same_then (sign m) (λ _. same_trans (same_assoc (p i) _ (λ all. empty (make all)))
+      (same_then (p i) (λ x. same_map (many (sign m >> p i)) (λ rest. a ∷ x ∷ rest) make))))
+
   pub reads_chained : (c e : Token → Bool) (b : ℕ) (r : Reads A) → Apart (sees m) c → Within c e
       → Inside (sees m) e → Reading p c b r → Reading chained e b (chain_at m make r a)
   reads_chained c e b r k w i h =
       let again = repeats_behind m p c e b r k w i h in
-      reads_word_then (mark m) (λ _.
-      reads_then h (λ x. more_follows again (λ rest. make (a ∷ x ∷ rest))) (λ x.
-      reads_same (λ i. same_map (many (sign m >> p i)) (λ rest. a ∷ x ∷ rest) make)
-      (reads_then (reads_more again (a ∷ x ∷ []))
-      (λ all. follows_empty (make all) e e (within_self e)) (λ all. reads_give (make all) e b))))
+      reads_same same_chained
+      (reads_then (reads_word_then (mark m) (λ _.
+      reads_then h (λ x. more_follows again (λ rest. a ∷ x ∷ rest))
+      (λ x. reads_more again (a ∷ x ∷ []))))
+      (λ all. follows_empty (make all) e e (within_self e)) (λ all. reads_give (make all) e b))
 
 module _ {A B T : Type 0} (m : List ℕ) (make : A → B → T) (p : Kind → Phrase B) (a : A) where
   abbrev pub paired : Kind → Phrase T

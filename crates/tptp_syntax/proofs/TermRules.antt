@@ -2,6 +2,12 @@
 use Rattle.std.proofs.Common.{◌≡◌, ℕ, zero, suc, List, [], ◌∷◌, Bool, true, false, ◌||◌, length}
 use Rattle.std.proofs.Common.{Option, Some, None, refl, inl}
 use Rattle.std.specs.Prelude.{codes}
+use Rattle.std.proofs.Common.{◌<◌, ◌≤◌, ◌-◌, Err}
+use Rattle.tptp_words.specs.Scanning.{Left}
+use Rattle.tptp_phrases.specs.Readers.{behind, limit_cause, seen}
+use Rattle.tptp_phrases.proofs.Repetition.{Repeats}
+use Rattle.tptp_phrases.proofs.Turns.{no_level, some_level}
+use Rattle.tptp_syntax.proofs.SharedRules.{after_commas}
 use Rattle.tptp_words.specs.declared.word.WordKind.TheVariants as kind
 use Rattle.tptp_words.specs.Text.{Token}
 use Rattle.tptp_words.specs.Words.{name, variable, mark, dollar}
@@ -287,3 +293,21 @@ reads_literal b =
     (inside_first equates left) (reads_equation (t.Apply p.0 p.1) b)))
     (reads_then (reads_other never b) (λ a. follows_never _ goes_unit)
     (λ a. reads_equation a b)))
+
+-- ---- the loop and the limit of terms
+
+pub terms_after_commas : (b : ℕ) → Repeats (λ i. sign (codes ",") >> below i)
+    (sees (codes ",")) (sees (codes ",")) no_strays left (or_comma left) b
+    (behind (mark (codes ",")) (term_inside b 1))
+terms_after_commas b =
+    after_commas below left b (term_inside b 1) (mark_apart (codes ",") left refl)
+    (reads_term_inside b 1)
+
+pub no_term_inside : (n k : ℕ) → 0 < k → n < k → (s : Left)
+    → term_inside n k s ≡ Err (limit_cause opens_term stray_term (seen s), s)
+unfolding term_inside
+no_term_inside n k h i s = no_level opens_term stray_term term_rule_at n k h i s
+
+pub some_term_inside : (n k : ℕ) → 0 < k → k ≤ n → term_inside n k ≡ term_at (n - k)
+unfolding term_inside term_at
+some_term_inside n k h i = some_level opens_term stray_term term_rule_at n k h i

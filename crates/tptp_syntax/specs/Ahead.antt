@@ -1,5 +1,5 @@
 -- What a reader with one word in hand has left, and what its calls give.
-use Rattle.std.specs.Prelude.{◌≡◌, ◌≢◌, ℕ, List, [], ◌∷◌, Option, Some, None, Result, Ok, Err, codes}
+use Rattle.std.specs.Prelude.{◌≡◌, ◌≢◌, ◌⊎◌, ℕ, List, [], ◌∷◌, Option, Some, None, Result, Ok, Err, codes}
 use Rattle.tptp_words.specs.declared.word.WordError.{WordError}
 use Rattle.tptp_words.specs.Text.{Token, Placed}
 use Rattle.tptp_words.specs.Words.{mark, keyword, dollar}
@@ -60,6 +60,10 @@ fixed x.Truth = dollar (codes "$o")
 fixed x.Types = dollar (codes "$tType")
 fixed x.True = dollar (codes "$true")
 fixed x.False = dollar (codes "$false")
+
+-- a mark that joins the units of a chain
+abbrev pub IsJoining : Fixed → Type 0
+IsJoining word = (word ≡ x.And) ⊎ (word ≡ x.Or)
 
 -- the cause of a fault
 abbrev pub cause : Fault → Cause stray.Stray

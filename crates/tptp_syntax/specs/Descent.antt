@@ -57,12 +57,17 @@ application_at make item = do
     xs ← arguments_at item
     give (make n xs)) (give (make n []))
 
+-- the parts of a chain, behind its first
+abbrev pub parts_at : {A : Type 0} → (Token → Option (Unit {0})) → Reads A → A → Reads (List A)
+parts_at f part a = do
+  take_word f
+  b ← part
+  many_at (takes f) (behind f part) (a ∷ b ∷ [])
+
 -- what may stand behind the first part of a chain
 abbrev pub chain_at : {A T : Type 0} → List ℕ → (List A → T) → Reads A → A → Reads T
 chain_at m make part a = do
-  expect m
-  b ← part
-  all ← many_at (sees m) (behind (mark m) part) (a ∷ b ∷ [])
+  all ← parts_at (mark m) part a
   give (make all)
 
 -- what may stand behind the first of two parts
@@ -194,16 +199,22 @@ term_at n = term_rule_at n (term_inside n)
 
 -- ---- formulas
 
-abbrev pub bound_at : Language → ℕ → Reads Bound
-bound_at Fof n = do
+abbrev pub untyped_at : Reads Bound
+untyped_at = do
   v ← take_word variable
   give (record { name = v; kind = None })
-bound_at Tff n = do
+
+abbrev pub typed_at : ℕ → Reads Bound
+typed_at n = do
   v ← take_word variable
   choose (sees (codes ":")) (do
     expect (codes ":")
     a ← type_at n
     give (record { name = v; kind = Some a })) (give (record { name = v; kind = None }))
+
+abbrev pub bound_at : Language → ℕ → Reads Bound
+bound_at Fof n = untyped_at
+bound_at Tff n = typed_at n
 
 -- what may stand behind the first unit of a formula
 abbrev pub joined_at : Reads RawFormula → RawFormula → Reads RawFormula
@@ -216,13 +227,15 @@ joined_at unit a = do
 abbrev pub joins : Token → Bool
 joins w = sees (codes "&") w || (sees (codes "|") w || takes connective w)
 
+abbrev pub tail_at : Reads RawFormula → RawFormula → Reads RawFormula
+tail_at unit a =
+    choose (sees (codes "&")) (chain_at (codes "&") f.And unit a)
+    (choose (sees (codes "|")) (chain_at (codes "|") f.Or unit a) (joined_at unit a))
+
 abbrev pub formula_at_of : Reads RawFormula → Reads RawFormula
 formula_at_of unit = do
   a ← unit
-  choose joins
-    (choose (sees (codes "&")) (chain_at (codes "&") f.And unit a)
-    (choose (sees (codes "|")) (chain_at (codes "|") f.Or unit a) (joined_at unit a)))
-    (give a)
+  choose joins (tail_at unit a) (give a)
 
 -- a name and its arguments
 abbrev pub applied_at : ℕ → Reads (List ℕ × List RawTerm)

@@ -6,10 +6,13 @@ mod error;
 mod fault;
 mod fixed;
 mod formula;
+mod formula_reader;
 mod language;
 mod reader;
 mod spelled;
 mod term;
+mod term_reader;
+mod type_reader;
 mod types;
 
 pub use entry::{Entry, File, StatedRole};
