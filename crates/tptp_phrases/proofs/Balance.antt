@@ -1,16 +1,16 @@
 -- Any words with brackets that match, read to the first bracket that closes none of them.
 use Rattle.std.proofs.Common.{◌≡◌, ℕ, zero, suc, ◌≤◌, ◌⊎◌, inl, inr, List, [], ◌∷◌, ◌++◌, Bool, true}
-use Rattle.std.proofs.Common.{false, length, Option, Some, None, Result, Ok, Err, refl, sym, ap, subst}
+use Rattle.std.proofs.Common.{false, length, Option, Some, None, Ok, Err, refl, sym, ap, subst}
 use Rattle.std.proofs.Common.{arith, ◌∙◌}
 use Rattle.std.specs.Prelude.{not}
 use Rattle.std.proofs.Math.Nat.{le_refl, le_of_eq, le_trans}
 use Rattle.tptp_words.specs.declared.word.WordError.{WordError}
 use Rattle.tptp_words.specs.Text.{Token, Placed, tokens}
-use Rattle.tptp_phrases.specs.Phrase.{Phrase, Variant, balanced, open_behind, open_after}
+use Rattle.tptp_phrases.specs.Phrase.{balanced, open_behind, open_after}
 use Rattle.tptp_words.specs.Scanning.{Left}
-use Rattle.tptp_phrases.specs.Readers.{seen, Cause, Syntax, Outcome, Reader, goes_on}
+use Rattle.tptp_phrases.specs.Readers.{seen, Syntax, Outcome}
 use Rattle.tptp_phrases.specs.Readers.{enough, skip_from, skip_balanced, unless_none}
-use Rattle.tptp_phrases.proofs.Outcomes.{Stops, Read, Refused, Any, Parses, Reading, IsLater, left_of}
+use Rattle.tptp_phrases.proofs.Outcomes.{Stops, Parses, Reading, IsLater, left_of}
 use Rattle.tptp_phrases.proofs.Outcomes.{Apart}
 use Rattle.tptp_phrases.proofs.Sequences.{not_later, later_still}
 
@@ -59,20 +59,27 @@ module _ (opens closes : Token → Bool) where
     within = λ r (front, m, e, o). let k = (no_words front r e).1 in rw k (le_refl 0);
     only = λ r (front, e, o, s) t. (no_words front r e).1;
   }
-  at_end K zero false fault = (refl, record {
-    begun = ([], 0, refl, refl);
-    inside = le_refl 0;
-    within = λ r (front, m, e, o). let k = (no_words front r e).1 in rw k (le_refl 0);
-    none = λ r (front, e, o, s) t. elim s [
-      inl h ↦ cc h | inr h ↦ h (no_words front r e).0
-    ];
-  })
-  at_end K (suc n) some fault = (refl, record {
-    begun = ([], suc n, refl, refl);
-    inside = le_refl 0;
-    within = λ r (front, m, e, o). let k = (no_words front r e).1 in rw k (le_refl 0);
-    none = λ r (front, e, o, s) t. let k = (no_words front r e).0 in none front k o;
-  })
+  at_end K zero false fault = (
+    refl,
+    record {
+      begun = ([], 0, refl, refl);
+      inside = le_refl 0;
+      within = λ r (front, m, e, o). let k = (no_words front r e).1 in rw k (le_refl 0);
+      none = λ r (front, e, o, s) t. elim s [
+        | inl h ↦ cc h
+        | inr h ↦ h (no_words front r e).0
+      ];
+    },
+  )
+  at_end K (suc n) some fault = (
+    refl,
+    record {
+      begun = ([], suc n, refl, refl);
+      inside = le_refl 0;
+      within = λ r (front, m, e, o). let k = (no_words front r e).1 in rw k (le_refl 0);
+      none = λ r (front, e, o, s) t. let k = (no_words front r e).0 in none front k o;
+    },
+  )
     where
       none : (front : List Token) → front ≡ [] → open_after opens closes (Some (suc n)) front ≡ Some 0
           → ⊥
@@ -153,17 +160,20 @@ module _ (opens closes : Token → Bool) where
         within = λ r j. begun_back m (seen x.1) r h k.inside k.within j;
         only = λ r j s. k.only r (whole_back m some r h s j) s;
       }
-      one_more K m some (Err e) h k = (k.0, record {
-        begun = (
-          w ∷ k.1.begun.0,
-          k.1.begun.1,
-          ap (λ z. w ∷ z) k.1.begun.2,
-          after_first w k.1.begun.0 (Some m) refl h ∙ k.1.begun.3,
-        );
-        inside = le_trans k.1.inside (omega arith);
-        within = λ r j. begun_back m (seen e.1) r h k.1.inside k.1.within j;
-        none = λ r j s. k.1.none r (whole_back m some r h s j) s;
-      })
+      one_more K m some (Err e) h k = (
+        k.0,
+        record {
+          begun = (
+            w ∷ k.1.begun.0,
+            k.1.begun.1,
+            ap (λ z. w ∷ z) k.1.begun.2,
+            after_first w k.1.begun.0 (Some m) refl h ∙ k.1.begun.3,
+          );
+          inside = le_trans k.1.inside (omega arith);
+          within = λ r j. begun_back m (seen e.1) r h k.1.inside k.1.within j;
+          none = λ r j s. k.1.none r (whole_back m some r h s j) s;
+        },
+      )
 
       -- ---- a word that closes nothing
 
@@ -192,12 +202,15 @@ module _ (opens closes : Token → Bool) where
         within = λ r j. rw is (within_here r h j);
         only = λ r j t. (only_here true r h j).0 ∙ sym is;
       }
-      here K false s is h = (refl, record {
-        begun = ([], n, sym is, refl);
-        inside = le_of_eq (ap length is);
-        within = λ r j. rw is (within_here r h j);
-        none = λ r j t. let k = (only_here false r h j).1 in cc k;
-      })
+      here K false s is h = (
+        refl,
+        record {
+          begun = ([], n, sym is, refl);
+          inside = le_of_eq (ap length is);
+          within = λ r j. rw is (within_here r h j);
+          none = λ r j t. let k = (only_here false r h j).1 in cc k;
+        },
+      )
 
   -- ---- the words, read
 

@@ -1,15 +1,15 @@
 -- How what is said of outcomes goes through a choice by the first word.
-use Rattle.std.proofs.Common.{◌≡◌, ℕ, ◌≤◌, ◌⊎◌, inl, inr, List, [], ◌∷◌, Bool, true, false, length}
-use Rattle.std.proofs.Common.{Option, Some, None, Result, Ok, Err, refl, sym, subst, ◌∙◌, if◌then◌else◌}
+use Rattle.std.proofs.Common.{◌≡◌, ℕ, ◌≤◌, ◌⊎◌, inl, inr, List, Bool, true, false, length}
+use Rattle.std.proofs.Common.{Option, Ok, Err, refl, sym, subst, ◌∙◌, if◌then◌else◌}
 use Rattle.tptp_words.specs.Text.{Token}
-use Rattle.tptp_phrases.specs.Phrase.{Phrase, Variant, empty, stray, ◌>>=◌, ◌>>◌, ◌or◌, word}
+use Rattle.tptp_phrases.specs.Phrase.{Phrase, Variant, empty, stray, ◌>>=◌, ◌or◌, word}
 use Rattle.tptp_words.specs.Scanning.{Left}
 use Rattle.tptp_phrases.specs.Readers.{seen, Outcome, Reader, goes_on, choose, give, seq}
 use Rattle.tptp_phrases.specs.Readers.{takes, take_word, refuse_stray}
 use Rattle.tptp_phrases.specs.Readers.{no_strays}
-use Rattle.tptp_phrases.proofs.Outcomes.{Stops, Read, Refused, Deeper, Parses, Reading, Dead}
-use Rattle.tptp_phrases.proofs.Outcomes.{Starts, Apart, Inside, StraysApart, StrayAt}
-use Rattle.tptp_phrases.proofs.Outcomes.{IsLater, left_of, never, Within, Follows, First}
+use Rattle.tptp_phrases.proofs.Outcomes.{Stops, Refused, Deeper, Parses, Reading, Dead}
+use Rattle.tptp_phrases.proofs.Outcomes.{Starts, Apart, Inside, StraysApart}
+use Rattle.tptp_phrases.proofs.Outcomes.{IsLater, left_of, Within, Follows, First}
 use Rattle.tptp_phrases.proofs.Sequences.{fails_map, parses_empty, not_later, reads_then}
 use Rattle.tptp_phrases.proofs.SingleWords.{reads_word, reads_stray}
 use Rattle.tptp_phrases.proofs.Firsts.{dead_starts, dead_empty, dead_or, no_stray_there, goes_apart}
@@ -19,97 +19,105 @@ use Rattle.tptp_phrases.proofs.Firsts.{follows_never, follows_starts, stops_with
 -- ---- one alternative where nothing of the other stands
 
 module _ {K A : Type 0} (p q : Variant K → Phrase A) (c : Token → Bool) (b : ℕ) (ws : List Token)
-    where
-  all_of : (rest r : List Token) → length rest ≤ length ws → ws ≡ r → length rest ≤ length r
-  all_of rest r h e = subst (λ z. length rest ≤ length z) e h
+  where
+    all_of : (rest r : List Token) → length rest ≤ length ws → ws ≡ r → length rest ≤ length r
+    all_of rest r h e = subst (λ z. length rest ≤ length z) e h
 
-  refused_left : (rest : List Token) → Dead q c ws → (N : Variant K → Type 0)
-      → Refused p c b N ws rest → Refused (λ i. p i or q i) c b N ws rest
-  unfolding ◌or◌
-  refused_left rest d N h = record {
-    begun = λ i l. inl (h.begun i l);
-    inside = h.inside;
-    within = λ i r n j. elim j [
-      inl x ↦ h.within i r n x | inr x ↦ all_of rest r h.inside (d.begun i r x)
-    ];
-    whole = λ i r x n j. elim j [
-      inl y ↦ h.whole i r x n y | inr y ↦ all_of rest r h.inside (d.whole i r x y)
-    ];
-    none = λ i r x n j s. elim j [ inl y ↦ h.none i r x n y s | inr y ↦ d.none i r x y s ];
-  }
+    refused_left : (rest : List Token) → Dead q c ws → (N : Variant K → Type 0)
+        → Refused p c b N ws rest → Refused (λ i. p i or q i) c b N ws rest
+    unfolding ◌or◌
+    refused_left rest d N h = record {
+      begun = λ i l. inl (h.begun i l);
+      inside = h.inside;
+      within = λ i r n j. elim j [
+        | inl x ↦ h.within i r n x
+        | inr x ↦ all_of rest r h.inside (d.begun i r x)
+      ];
+      whole = λ i r x n j. elim j [
+        | inl y ↦ h.whole i r x n y
+        | inr y ↦ all_of rest r h.inside (d.whole i r x y)
+      ];
+      none = λ i r x n j s. elim j [ inl y ↦ h.none i r x n y s | inr y ↦ d.none i r x y s ];
+    }
 
-  deeper_left : (rest : List Token) (V : Variant K → Type 0) → Deeper p b V ws rest
-      → Deeper (λ i. p i or q i) b V ws rest
-  unfolding ◌or◌
-  deeper_left rest V h = record {
-    next = h.next;
-    after = h.after;
-    is = h.is;
-    enough = h.enough;
-    begun = λ i v l. inl (h.begun i v l);
-  }
+    deeper_left : (rest : List Token) (V : Variant K → Type 0) → Deeper p b V ws rest
+        → Deeper (λ i. p i or q i) b V ws rest
+    unfolding ◌or◌
+    deeper_left rest V h = record {
+      next = h.next;
+      after = h.after;
+      is = h.is;
+      enough = h.enough;
+      begun = λ i v l. inl (h.begun i v l);
+    }
 
-  pub parses_left : (o : Outcome K A) → Dead q c ws → Parses p c b ws o
-      → Parses (λ i. p i or q i) c b ws o
-  unfolding ◌or◌
-  parses_left (Ok v) d h = record {
-    derives = λ i l. inl (h.derives i l);
-    inside = h.inside;
-    within = λ i r j. elim j [
-      inl x ↦ h.within i r x | inr x ↦ all_of (seen v.1) r h.inside (d.begun i r x)
-    ];
-    whole = λ i r x j. elim j [
-      inl y ↦ h.whole i r x y | inr y ↦ all_of (seen v.1) r h.inside (d.whole i r x y)
-    ];
-    only = λ i r x j s. elim j [ inl y ↦ h.only i r x y s | inr y ↦ absurd (d.none i r x y s) ];
-  }
-  parses_left (Err e) d h =
-      fails_map p (λ i. p i or q i) c c b ws ws (seen e.1) (λ N r. refused_left (seen e.1) d N r)
-      (λ V x. deeper_left (seen e.1) V x) e.0 h
+    pub parses_left : (o : Outcome K A) → Dead q c ws → Parses p c b ws o
+        → Parses (λ i. p i or q i) c b ws o
+    unfolding ◌or◌
+    parses_left (Ok v) d h = record {
+      derives = λ i l. inl (h.derives i l);
+      inside = h.inside;
+      within = λ i r j. elim j [
+        | inl x ↦ h.within i r x
+        | inr x ↦ all_of (seen v.1) r h.inside (d.begun i r x)
+      ];
+      whole = λ i r x j. elim j [
+        | inl y ↦ h.whole i r x y
+        | inr y ↦ all_of (seen v.1) r h.inside (d.whole i r x y)
+      ];
+      only = λ i r x j s. elim j [ inl y ↦ h.only i r x y s | inr y ↦ absurd (d.none i r x y s) ];
+    }
+    parses_left (Err e) d h =
+        fails_map p (λ i. p i or q i) c c b ws ws (seen e.1) (λ N r. refused_left (seen e.1) d N r)
+        (λ V x. deeper_left (seen e.1) V x) e.0 h
 
-  refused_right : (rest : List Token) → Dead p c ws → (N : Variant K → Type 0)
-      → Refused q c b N ws rest → Refused (λ i. p i or q i) c b N ws rest
-  unfolding ◌or◌
-  refused_right rest d N h = record {
-    begun = λ i l. inr (h.begun i l);
-    inside = h.inside;
-    within = λ i r n j. elim j [
-      inr x ↦ h.within i r n x | inl x ↦ all_of rest r h.inside (d.begun i r x)
-    ];
-    whole = λ i r x n j. elim j [
-      inr y ↦ h.whole i r x n y | inl y ↦ all_of rest r h.inside (d.whole i r x y)
-    ];
-    none = λ i r x n j s. elim j [ inr y ↦ h.none i r x n y s | inl y ↦ d.none i r x y s ];
-  }
+    refused_right : (rest : List Token) → Dead p c ws → (N : Variant K → Type 0)
+        → Refused q c b N ws rest → Refused (λ i. p i or q i) c b N ws rest
+    unfolding ◌or◌
+    refused_right rest d N h = record {
+      begun = λ i l. inr (h.begun i l);
+      inside = h.inside;
+      within = λ i r n j. elim j [
+        | inr x ↦ h.within i r n x
+        | inl x ↦ all_of rest r h.inside (d.begun i r x)
+      ];
+      whole = λ i r x n j. elim j [
+        | inr y ↦ h.whole i r x n y
+        | inl y ↦ all_of rest r h.inside (d.whole i r x y)
+      ];
+      none = λ i r x n j s. elim j [ inr y ↦ h.none i r x n y s | inl y ↦ d.none i r x y s ];
+    }
 
-  deeper_right : (rest : List Token) (V : Variant K → Type 0) → Deeper q b V ws rest
-      → Deeper (λ i. p i or q i) b V ws rest
-  unfolding ◌or◌
-  deeper_right rest V h = record {
-    next = h.next;
-    after = h.after;
-    is = h.is;
-    enough = h.enough;
-    begun = λ i v l. inr (h.begun i v l);
-  }
+    deeper_right : (rest : List Token) (V : Variant K → Type 0) → Deeper q b V ws rest
+        → Deeper (λ i. p i or q i) b V ws rest
+    unfolding ◌or◌
+    deeper_right rest V h = record {
+      next = h.next;
+      after = h.after;
+      is = h.is;
+      enough = h.enough;
+      begun = λ i v l. inr (h.begun i v l);
+    }
 
-  pub parses_right : (o : Outcome K A) → Dead p c ws → Parses q c b ws o
-      → Parses (λ i. p i or q i) c b ws o
-  unfolding ◌or◌
-  parses_right (Ok v) d h = record {
-    derives = λ i l. inr (h.derives i l);
-    inside = h.inside;
-    within = λ i r j. elim j [
-      inr x ↦ h.within i r x | inl x ↦ all_of (seen v.1) r h.inside (d.begun i r x)
-    ];
-    whole = λ i r x j. elim j [
-      inr y ↦ h.whole i r x y | inl y ↦ all_of (seen v.1) r h.inside (d.whole i r x y)
-    ];
-    only = λ i r x j s. elim j [ inr y ↦ h.only i r x y s | inl y ↦ absurd (d.none i r x y s) ];
-  }
-  parses_right (Err e) d h =
-      fails_map q (λ i. p i or q i) c c b ws ws (seen e.1) (λ N r. refused_right (seen e.1) d N r)
-      (λ V x. deeper_right (seen e.1) V x) e.0 h
+    pub parses_right : (o : Outcome K A) → Dead p c ws → Parses q c b ws o
+        → Parses (λ i. p i or q i) c b ws o
+    unfolding ◌or◌
+    parses_right (Ok v) d h = record {
+      derives = λ i l. inr (h.derives i l);
+      inside = h.inside;
+      within = λ i r j. elim j [
+        | inr x ↦ h.within i r x
+        | inl x ↦ all_of (seen v.1) r h.inside (d.begun i r x)
+      ];
+      whole = λ i r x j. elim j [
+        | inr y ↦ h.whole i r x y
+        | inl y ↦ all_of (seen v.1) r h.inside (d.whole i r x y)
+      ];
+      only = λ i r x j s. elim j [ inr y ↦ h.only i r x y s | inl y ↦ absurd (d.none i r x y s) ];
+    }
+    parses_right (Err e) d h =
+        fails_map q (λ i. p i or q i) c c b ws ws (seen e.1) (λ N r. refused_right (seen e.1) d N r)
+        (λ V x. deeper_right (seen e.1) V x) e.0 h
 
 -- ---- by the next word
 
@@ -156,7 +164,7 @@ dead_stray : {K A : Type 0} (kind : Token → Option K) (c : Token → Bool) (ws
 unfolding stray
 dead_stray kind c ws n = record {
   begun = λ i r j. elim j [
-    inl e ↦ e
+    | inl e ↦ e
     | inr s ↦ absurd (n i (record {
       next = s.0;
       after = r;

@@ -1,5 +1,5 @@
 -- The words that a phrase begins with.
-use Rattle.std.proofs.Common.{◌≡◌, ℕ, zero, suc, ◌≤◌, ◌⊎◌, inl, inr, List, [], ◌∷◌, Bool, true}
+use Rattle.std.proofs.Common.{◌≡◌, ℕ, ◌≤◌, ◌⊎◌, inl, inr, List, [], ◌∷◌, Bool, true}
 use Rattle.std.proofs.Common.{false, ◌||◌, Option, Some, None, is_some, refl, sym, ap, subst, ◌∙◌}
 use Rattle.tptp_words.specs.Text.{Token}
 use Rattle.tptp_phrases.specs.Phrase.{Phrase, Variant, empty, word, stray, ◌>>=◌, ◌or◌}
@@ -73,7 +73,8 @@ pub starts_bind : {K A B : Type 0} (p : Variant K → Phrase A) (f : Variant K �
 unfolding ◌>>=◌
 starts_bind p f t kind h = record {
   begun = λ i ws r j. elim j [
-    inl k ↦ h.begun i ws r k | inr k ↦ inr (inl (h.whole i ws k.0 k.1 k.2))
+    | inl k ↦ h.begun i ws r k
+    | inr k ↦ inr (inl (h.whole i ws k.0 k.1 k.2))
   ];
   whole = λ i ws r x d. h.whole i ws d.0 d.1 d.2;
 }
@@ -84,11 +85,11 @@ pub starts_or : {K A : Type 0} (p q : Variant K → Phrase A) (t u : Token → B
 unfolding ◌or◌
 starts_or p q t u kind h k = record {
   begun = λ i ws r j. elim j [
-    inl x ↦ first_by t (λ w. t w || u w) kind i ws r (goes_first t u ws) (h.begun i ws r x)
+    | inl x ↦ first_by t (λ w. t w || u w) kind i ws r (goes_first t u ws) (h.begun i ws r x)
     | inr x ↦ first_by u (λ w. t w || u w) kind i ws r (goes_second t u ws) (k.begun i ws r x)
   ];
   whole = λ i ws r x j. elim j [
-    inl d ↦ goes_first t u ws (h.whole i ws r x d)
+    | inl d ↦ goes_first t u ws (h.whole i ws r x d)
     | inr d ↦ goes_second t u ws (k.whole i ws r x d)
   ];
 }
@@ -99,9 +100,9 @@ pub starts_or_stray : {K A : Type 0} (p : Variant K → Phrase A) (t : Token →
 unfolding ◌or◌ stray
 starts_or_stray p t kind h = record {
   begun = λ i ws r j. elim j [
-    inl x ↦ h.begun i ws r x
+    | inl x ↦ h.begun i ws r x
     | inr x ↦ elim x [
-      inl e ↦ inl e
+      | inl e ↦ inl e
       | inr s ↦ inr (inr (record {
         next = s.0;
         after = r;
@@ -180,7 +181,8 @@ pub dead_starts : {K A : Type 0} (p : Variant K → Phrase A) (t : Token → Boo
     → goes_on t ws ≡ false → NoStray kind ws → Dead p c ws
 dead_starts p t kind c ws h e n = record {
   begun = λ i r j. elim (h.begun i ws r j) [
-    inl k ↦ k | inr k ↦ elim k [ inl l ↦ absurd (cc (e, l)) | inr a ↦ absurd (n i a) ]
+    | inl k ↦ k
+    | inr k ↦ elim k [ inl l ↦ absurd (cc (e, l)) | inr a ↦ absurd (n i a) ]
   ];
   whole = λ i r x d. let j = h.whole i ws r x d in absurd (cc (e, j));
   none = λ i r x d _. let j = h.whole i ws r x d in cc (e, j);
@@ -218,9 +220,10 @@ pub follows_starts : {K A : Type 0} (p : Variant K → Phrase A) (t c e : Token 
     → Starts p t no_strays → Apart t c → Follows p c e
 follows_starts p t c e h a = record {
   begun = λ i m r j. elim (h.begun i m r j) [
-    inl k ↦ inl k
+    | inl k ↦ inl k
     | inr k ↦ elim k [
-      inl l ↦ inr (stops_apart t c a m l) | inr s ↦ absurd (no_stray_there m i s)
+      | inl l ↦ inr (stops_apart t c a m l)
+      | inr s ↦ absurd (no_stray_there m i s)
     ]
   ];
   whole = λ i m r x d. inr (stops_apart t c a m (h.whole i m r x d));

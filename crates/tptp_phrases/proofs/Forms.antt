@@ -1,12 +1,11 @@
 -- The same phrase in another form.
-use Rattle.std.proofs.Common.{◌≡◌, ℕ, ◌≤◌, ◌⊎◌, inl, inr, List, [], ◌∷◌, Bool, length, Result, Ok}
-use Rattle.std.proofs.Common.{Option, Some}
-use Rattle.std.proofs.Common.{Err, refl, sym, ap, subst, ◌∙◌, ◌++◌, append_assoc, append-nil}
+use Rattle.std.proofs.Common.{◌≡◌, ℕ, inl, inr, List, ◌∷◌, Bool, Ok}
+use Rattle.std.proofs.Common.{Option}
+use Rattle.std.proofs.Common.{Err, refl, sym, ap, subst, ◌∙◌}
 use Rattle.tptp_words.specs.Text.{Token}
-use Rattle.tptp_phrases.specs.Phrase.{Phrase, Variant, empty, ◌>>=◌, ◌>>◌, ◌or◌, many}
-use Rattle.tptp_words.specs.Scanning.{Left}
-use Rattle.tptp_phrases.specs.Readers.{seen, Outcome, Reader, goes_on}
-use Rattle.tptp_phrases.proofs.Outcomes.{Read, Refused, Deeper, Parses, Reading, Starts, Opens}
+use Rattle.tptp_phrases.specs.Phrase.{Phrase, Variant, empty, ◌>>=◌, ◌or◌}
+use Rattle.tptp_phrases.specs.Readers.{seen, Outcome, Reader}
+use Rattle.tptp_phrases.proofs.Outcomes.{Refused, Deeper, Parses, Reading, Starts, Opens}
 use Rattle.tptp_phrases.proofs.Sequences.{fails_map}
 
 pub record Same {A : Type 0} (p q : Phrase A) : Type 0 where
@@ -16,53 +15,53 @@ pub record Same {A : Type 0} (p q : Phrase A) : Type 0 where
   pub begins_back : (ws r : List Token) → q.begins ws r → p.begins ws r
 
 module _ {K A : Type 0} (p q : Variant K → Phrase A) (same : (i : Variant K) → Same (p i) (q i))
-    where
-  module _ (c : Token → Bool) (b : ℕ) (ws rest : List Token) where
-    refused_same : (N : Variant K → Type 0) → Refused p c b N ws rest → Refused q c b N ws rest
-    refused_same N h = record {
-      begun = λ i l. (same i).begins ws rest (h.begun i l);
+  where
+    module _ (c : Token → Bool) (b : ℕ) (ws rest : List Token) where
+      refused_same : (N : Variant K → Type 0) → Refused p c b N ws rest → Refused q c b N ws rest
+      refused_same N h = record {
+        begun = λ i l. (same i).begins ws rest (h.begun i l);
+        inside = h.inside;
+        within = λ i r n j. h.within i r n ((same i).begins_back ws r j);
+        whole = λ i r x n d. h.whole i r x n ((same i).derives_back ws r x d);
+        none = λ i r x n d s. h.none i r x n ((same i).derives_back ws r x d) s;
+      }
+
+      deeper_same : (V : Variant K → Type 0) → Deeper p b V ws rest → Deeper q b V ws rest
+      deeper_same V h = record {
+        next = h.next;
+        after = h.after;
+        is = h.is;
+        enough = h.enough;
+        begun = λ i v l. (same i).begins ws h.after (h.begun i v l);
+      }
+
+    pub parses_same : (c : Token → Bool) (b : ℕ) (ws : List Token) (o : Outcome K A)
+        → Parses p c b ws o → Parses q c b ws o
+    parses_same c b ws (Ok v) h = record {
+      derives = λ i l. (same i).derives ws (seen v.1) v.0 (h.derives i l);
       inside = h.inside;
-      within = λ i r n j. h.within i r n ((same i).begins_back ws r j);
-      whole = λ i r x n d. h.whole i r x n ((same i).derives_back ws r x d);
-      none = λ i r x n d s. h.none i r x n ((same i).derives_back ws r x d) s;
+      within = λ i r j. h.within i r ((same i).begins_back ws r j);
+      whole = λ i r x d. h.whole i r x ((same i).derives_back ws r x d);
+      only = λ i r x d s. h.only i r x ((same i).derives_back ws r x d) s;
+    }
+    parses_same c b ws (Err e) h =
+        fails_map p q c c b ws ws (seen e.1) (λ N r. refused_same c b ws (seen e.1) N r)
+        (λ V d. deeper_same c b ws (seen e.1) V d) e.0 h
+
+    pub starts_same : (t : Token → Bool) (kind : Token → Option K) → Starts p t kind
+        → Starts q t kind
+    starts_same t kind h = record {
+      begun = λ i ws r j. h.begun i ws r ((same i).begins_back ws r j);
+      whole = λ i ws r x d. h.whole i ws r x ((same i).derives_back ws r x d);
     }
 
-    deeper_same : (V : Variant K → Type 0) → Deeper p b V ws rest → Deeper q b V ws rest
-    deeper_same V h = record {
-      next = h.next;
-      after = h.after;
-      is = h.is;
-      enough = h.enough;
-      begun = λ i v l. (same i).begins ws h.after (h.begun i v l);
+    pub opens_same : (t : Token → Bool) (kind : Token → Option K) (m : ℕ) → Opens p t kind m
+        → Opens q t kind m
+    opens_same t kind m h = record {
+      none = λ i ws. (same i).begins ws ws (h.none i ws);
+      one = λ i w ws l e. (same i).begins (w ∷ ws) ws (h.one i w ws l e);
+      astray = λ i w ws k l e v. (same i).begins (w ∷ ws) ws (h.astray i w ws k l e v);
     }
-
-  pub parses_same : (c : Token → Bool) (b : ℕ) (ws : List Token) (o : Outcome K A)
-      → Parses p c b ws o → Parses q c b ws o
-  parses_same c b ws (Ok v) h = record {
-    derives = λ i l. (same i).derives ws (seen v.1) v.0 (h.derives i l);
-    inside = h.inside;
-    within = λ i r j. h.within i r ((same i).begins_back ws r j);
-    whole = λ i r x d. h.whole i r x ((same i).derives_back ws r x d);
-    only = λ i r x d s. h.only i r x ((same i).derives_back ws r x d) s;
-  }
-  parses_same c b ws (Err e) h =
-      fails_map p q c c b ws ws (seen e.1) (λ N r. refused_same c b ws (seen e.1) N r)
-      (λ V d. deeper_same c b ws (seen e.1) V d) e.0 h
-
-  pub starts_same : (t : Token → Bool) (kind : Token → Option K) → Starts p t kind
-      → Starts q t kind
-  starts_same t kind h = record {
-    begun = λ i ws r j. h.begun i ws r ((same i).begins_back ws r j);
-    whole = λ i ws r x d. h.whole i ws r x ((same i).derives_back ws r x d);
-  }
-
-  pub opens_same : (t : Token → Bool) (kind : Token → Option K) (m : ℕ) → Opens p t kind m
-      → Opens q t kind m
-  opens_same t kind m h = record {
-    none = λ i ws. (same i).begins ws ws (h.none i ws);
-    one = λ i w ws l e. (same i).begins (w ∷ ws) ws (h.one i w ws l e);
-    astray = λ i w ws k l e v. (same i).begins (w ∷ ws) ws (h.astray i w ws k l e v);
-  }
 
 pub reads_same : {K A : Type 0} {p q : Variant K → Phrase A} {c : Token → Bool} {b : ℕ}
     {r : Reader K A} → ((i : Variant K) → Same (p i) (q i)) → Reading p c b r → Reading q c b r
@@ -103,14 +102,17 @@ pub same_or : {A : Type 0} {p q r s : Phrase A} → Same p r → Same q s → Sa
 unfolding ◌or◌
 same_or h k = record {
   derives = λ ws r x d. elim d [
-    inl i ↦ inl (h.derives ws r x i) | inr i ↦ inr (k.derives ws r x i)
+    | inl i ↦ inl (h.derives ws r x i)
+    | inr i ↦ inr (k.derives ws r x i)
   ];
   derives_back = λ ws r x d. elim d [
-    inl i ↦ inl (h.derives_back ws r x i) | inr i ↦ inr (k.derives_back ws r x i)
+    | inl i ↦ inl (h.derives_back ws r x i)
+    | inr i ↦ inr (k.derives_back ws r x i)
   ];
   begins = λ ws r d. elim d [ inl i ↦ inl (h.begins ws r i) | inr i ↦ inr (k.begins ws r i) ];
   begins_back = λ ws r d. elim d [
-    inl i ↦ inl (h.begins_back ws r i) | inr i ↦ inr (k.begins_back ws r i)
+    | inl i ↦ inl (h.begins_back ws r i)
+    | inr i ↦ inr (k.begins_back ws r i)
   ];
 }
 
@@ -122,16 +124,20 @@ pub or_assoc : {A : Type 0} (p q r : Phrase A) → Same (p or (q or r)) ((p or q
 unfolding ◌or◌
 or_assoc p q r = record {
   derives = λ ws z x d. elim d [
-    inl i ↦ inl (inl i) | inr i ↦ elim i [ inl j ↦ inl (inr j) | inr j ↦ inr j ]
+    | inl i ↦ inl (inl i)
+    | inr i ↦ elim i [ inl j ↦ inl (inr j) | inr j ↦ inr j ]
   ];
   derives_back = λ ws z x d. elim d [
-    inl i ↦ elim i [ inl j ↦ inl j | inr j ↦ inr (inl j) ] | inr i ↦ inr (inr i)
+    | inl i ↦ elim i [ inl j ↦ inl j | inr j ↦ inr (inl j) ]
+    | inr i ↦ inr (inr i)
   ];
   begins = λ ws z d. elim d [
-    inl i ↦ inl (inl i) | inr i ↦ elim i [ inl j ↦ inl (inr j) | inr j ↦ inr j ]
+    | inl i ↦ inl (inl i)
+    | inr i ↦ elim i [ inl j ↦ inl (inr j) | inr j ↦ inr j ]
   ];
   begins_back = λ ws z d. elim d [
-    inl i ↦ elim i [ inl j ↦ inl j | inr j ↦ inr (inl j) ] | inr i ↦ inr (inr i)
+    | inl i ↦ elim i [ inl j ↦ inl j | inr j ↦ inr (inl j) ]
+    | inr i ↦ inr (inr i)
   ];
 }
 
@@ -140,16 +146,20 @@ pub or_swap : {A : Type 0} (p q r : Phrase A) → Same (p or (q or r)) (q or (p 
 unfolding ◌or◌
 or_swap p q r = record {
   derives = λ ws z x d. elim d [
-    inl i ↦ inr (inl i) | inr i ↦ elim i [ inl j ↦ inl j | inr j ↦ inr (inr j) ]
+    | inl i ↦ inr (inl i)
+    | inr i ↦ elim i [ inl j ↦ inl j | inr j ↦ inr (inr j) ]
   ];
   derives_back = λ ws z x d. elim d [
-    inl i ↦ inr (inl i) | inr i ↦ elim i [ inl j ↦ inl j | inr j ↦ inr (inr j) ]
+    | inl i ↦ inr (inl i)
+    | inr i ↦ elim i [ inl j ↦ inl j | inr j ↦ inr (inr j) ]
   ];
   begins = λ ws z d. elim d [
-    inl i ↦ inr (inl i) | inr i ↦ elim i [ inl j ↦ inl j | inr j ↦ inr (inr j) ]
+    | inl i ↦ inr (inl i)
+    | inr i ↦ elim i [ inl j ↦ inl j | inr j ↦ inr (inr j) ]
   ];
   begins_back = λ ws z d. elim d [
-    inl i ↦ inr (inl i) | inr i ↦ elim i [ inl j ↦ inl j | inr j ↦ inr (inr j) ]
+    | inl i ↦ inr (inl i)
+    | inr i ↦ elim i [ inl j ↦ inl j | inr j ↦ inr (inr j) ]
   ];
 }
 
@@ -163,7 +173,8 @@ same_then p h = record {
   derives_back = λ ws r x (m, a, d, i). (m, a, d, (h a).derives_back m r x i);
   begins = λ ws r j. elim j [ inl i ↦ inl i | inr i ↦ inr (i.0, i.1, i.2, (h i.1).begins i.0 r i.3) ];
   begins_back = λ ws r j. elim j [
-    inl i ↦ inl i | inr i ↦ inr (i.0, i.1, i.2, (h i.1).begins_back i.0 r i.3)
+    | inl i ↦ inl i
+    | inr i ↦ inr (i.0, i.1, i.2, (h i.1).begins_back i.0 r i.3)
   ];
 }
 
@@ -174,10 +185,12 @@ same_first f h = record {
   derives = λ ws r x (m, a, d, i). (m, a, h.derives ws m a d, i);
   derives_back = λ ws r x (m, a, d, i). (m, a, h.derives_back ws m a d, i);
   begins = λ ws r j. elim j [
-    inl i ↦ inl (h.begins ws r i) | inr i ↦ inr (i.0, i.1, h.derives ws i.0 i.1 i.2, i.3)
+    | inl i ↦ inl (h.begins ws r i)
+    | inr i ↦ inr (i.0, i.1, h.derives ws i.0 i.1 i.2, i.3)
   ];
   begins_back = λ ws r j. elim j [
-    inl i ↦ inl (h.begins_back ws r i) | inr i ↦ inr (i.0, i.1, h.derives_back ws i.0 i.1 i.2, i.3)
+    | inl i ↦ inl (h.begins_back ws r i)
+    | inr i ↦ inr (i.0, i.1, h.derives_back ws i.0 i.1 i.2, i.3)
   ];
 }
 

@@ -1,19 +1,13 @@
 -- Phrases that nest, read level by level.
-use Rattle.std.proofs.Common.{◌≡◌, ℕ, zero, suc, ◌+◌, ◌≤◌, ◌⊎◌, inl, inr, List, [], ◌∷◌, Bool, true}
-use Rattle.std.proofs.Common.{false, length, Option, Some, None, Result, Ok, Err, refl, sym, ap, subst}
-use Rattle.std.proofs.Common.{arith, ◌∙◌, if◌then◌else◌}
-use Rattle.std.proofs.Math.Nat.{le_refl, le_of_eq}
+use Rattle.std.proofs.Common.{◌≡◌, ℕ, zero, suc, ◌+◌, ◌≤◌, inl, inr, List, ◌∷◌, Bool, true}
+use Rattle.std.proofs.Common.{length, Option, Some, Ok, Err, refl, subst}
+use Rattle.std.proofs.Common.{arith}
 use Rattle.tptp_words.specs.Text.{Token}
-use Rattle.tptp_phrases.specs.Phrase.{Phrase, Variant, nothing, Rule, levels, deeper, nested}
-use Rattle.tptp_words.specs.Scanning.{Left}
+use Rattle.tptp_phrases.specs.Phrase.{Phrase, Variant, nothing}
 use Rattle.tptp_phrases.specs.Readers.{seen, Cause, Syntax, TooDeep, Stray, Outcome, Reader}
-use Rattle.tptp_phrases.specs.Readers.{goes_on, refuse, at_limit, limit_cause, stray_cause, cause_of}
-use Rattle.tptp_phrases.specs.Readers.{RuleReader, levels_at}
-use Rattle.tptp_phrases.proofs.Outcomes.{Stops, Read, Refused, Deeper, Any, At, Takes, Leaves, Fails}
-use Rattle.tptp_phrases.proofs.Outcomes.{Parses, Reading, Starts, Opens, StrayAt, First}
-use Rattle.tptp_phrases.proofs.Sequences.{not_later}
-use Rattle.tptp_phrases.proofs.SingleWords.{reads_nothing}
-use Rattle.tptp_phrases.proofs.Forms.{Same, same_path, reads_same, starts_same, opens_same}
+use Rattle.tptp_phrases.specs.Readers.{goes_on}
+use Rattle.tptp_phrases.proofs.Outcomes.{Stops, Refused, Deeper, Any, At, Takes, Leaves, Fails}
+use Rattle.tptp_phrases.proofs.Outcomes.{Parses, Reading, Starts, Opens, First}
 
 abbrev pub at_depth : {K : Type 0} → Option K → ℕ → Variant K
 at_depth kind n = record { depth = n; stray = kind }
@@ -38,9 +32,9 @@ module _ {K A : Type 0} (u : Variant K → Phrase A) (t : Token → Bool) (kind 
           → First t kind (at_depth s n) ws r
       begun s zero ws r j = inl j
       begun s (suc n) ws r j = elim (h.begun (at_depth s n) ws r j) [
-        inl e ↦ inl e
+        | inl e ↦ inl e
         | inr k ↦ elim k [
-          inl l ↦ inr (inl l)
+          | inl l ↦ inr (inl l)
           | inr a ↦ inr (inr (record {
             next = a.next;
             after = a.after;

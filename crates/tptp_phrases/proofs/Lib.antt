@@ -9,3 +9,4 @@ pub mod Levels
 pub mod Limits
 pub mod Balance
 pub mod Turns
+pub mod Fronts

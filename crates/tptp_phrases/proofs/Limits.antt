@@ -1,20 +1,20 @@
 -- Phrases that nest, read down to the limit of their levels.
-use Rattle.std.proofs.Common.{◌≡◌, ℕ, zero, suc, ◌+◌, ◌≤◌, ◌⊎◌, inl, inr, List, [], ◌∷◌, Bool, true}
-use Rattle.std.proofs.Common.{false, length, Option, Some, None, Result, Ok, Err, refl, sym, ap, subst}
-use Rattle.std.proofs.Common.{arith, ◌∙◌, if◌then◌else◌}
+use Rattle.std.proofs.Common.{◌≡◌, ℕ, zero, suc, inl, inr, List, [], ◌∷◌, Bool, true}
+use Rattle.std.proofs.Common.{false, length, Option, Some, None, Err, refl, sym, ap, subst}
+use Rattle.std.proofs.Common.{arith, if◌then◌else◌}
 use Rattle.std.proofs.Math.Nat.{le_refl, le_of_eq}
 use Rattle.tptp_words.specs.Text.{Token}
 use Rattle.tptp_phrases.specs.Phrase.{Phrase, Variant, nothing, Rule, levels, deeper, nested}
 use Rattle.tptp_words.specs.Scanning.{Left}
-use Rattle.tptp_phrases.specs.Readers.{seen, Cause, Syntax, TooDeep, Stray, Outcome, Reader}
-use Rattle.tptp_phrases.specs.Readers.{goes_on, refuse, at_limit, limit_cause, stray_cause, cause_of}
+use Rattle.tptp_phrases.specs.Readers.{seen, TooDeep, Reader}
+use Rattle.tptp_phrases.specs.Readers.{goes_on, at_limit, limit_cause, cause_of}
 use Rattle.tptp_phrases.specs.Readers.{RuleReader, levels_at}
-use Rattle.tptp_phrases.proofs.Outcomes.{Stops, Read, Refused, Deeper, Any, At, Takes, Leaves, Fails}
-use Rattle.tptp_phrases.proofs.Outcomes.{Parses, Reading, Starts, Opens, StrayAt, First}
+use Rattle.tptp_phrases.proofs.Outcomes.{Refused, Any, At, Leaves}
+use Rattle.tptp_phrases.proofs.Outcomes.{Parses, Reading, Starts, Opens, StrayAt}
 use Rattle.tptp_phrases.proofs.Sequences.{not_later}
 use Rattle.tptp_phrases.proofs.SingleWords.{reads_nothing}
 use Rattle.tptp_phrases.proofs.Forms.{Same, same_path, reads_same, starts_same, opens_same}
-use Rattle.tptp_phrases.proofs.Levels.{at_depth, below, below_from, starts_below, opens_below}
+use Rattle.tptp_phrases.proofs.Levels.{below, below_from, starts_below, opens_below}
 use Rattle.tptp_phrases.proofs.Levels.{reads_below}
 
 module _ {K A : Type 0} (u : Variant K → Phrase A) (t : Token → Bool) (kind : Token → Option K)
@@ -55,7 +55,8 @@ module _ {K A : Type 0} (u : Variant K → Phrase A) (t : Token → Bool) (kind 
   refused_by N ws e astray =
       refused_here N ws
       (λ i r n j. elim ((starts_below u t kind starts).begun i ws r j) [
-        inl k ↦ k | inr k ↦ elim k [ inl l ↦ absurd (cc (e, l)) | inr a ↦ absurd (astray i n a) ]
+        | inl k ↦ k
+        | inr k ↦ elim k [ inl l ↦ absurd (cc (e, l)) | inr a ↦ absurd (astray i n a) ]
       ])
       (λ i r x n d. let k = (starts_below u t kind starts).whole i ws r x d in cc (e, k))
 
@@ -66,7 +67,7 @@ module _ {K A : Type 0} (u : Variant K → Phrase A) (t : Token → Bool) (kind 
       (λ i n a. let j = a.is in let l = a.of in cc (is, k, j, l))
   astray s w ws is e (Some which) k = (
     refused_by (Leaves which) (seen s) (rw is e)
-    (λ i n a. let j = a.is in let l = a.of in let v = a.taken in n (cc (is, k, j, l, v))),
+        (λ i n a. let j = a.is in let l = a.of in let v = a.taken in n (cc (is, k, j, l, v))),
     record {
       next = w;
       after = ws;

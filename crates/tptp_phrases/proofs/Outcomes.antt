@@ -1,7 +1,7 @@
 -- What a reader's outcome says of a phrase. The phrase is given in each variant of its grammar, and
 -- the reader runs where b levels are left.
-use Rattle.std.proofs.Common.{◌≡◌, ℕ, ◌+◌, ◌≤◌, ◌⊎◌, inl, inr, List, [], ◌∷◌, ◌++◌, Bool, true}
-use Rattle.std.proofs.Common.{false, length, Option, Some, None, Result, Ok, Err, refl}
+use Rattle.std.proofs.Common.{◌≡◌, ℕ, ◌+◌, ◌≤◌, ◌⊎◌, List, [], ◌∷◌, ◌++◌, Bool, true}
+use Rattle.std.proofs.Common.{false, length, Option, Some, Ok, Err, refl}
 use Rattle.std.specs.Prelude.{◌≢◌}
 use Rattle.tptp_words.specs.Text.{Token, Placed}
 use Rattle.tptp_phrases.specs.Phrase.{Phrase, Variant}

@@ -1,15 +1,15 @@
 -- A repetition, read item by item.
 use Rattle.std.proofs.Common.{◌≡◌, ℕ, zero, suc, ◌≤◌, ◌<◌, ◌⊎◌, inl, inr, List, [], ◌∷◌, Bool, true}
-use Rattle.std.proofs.Common.{false, length, Option, Some, None, Result, Ok, Err, refl, sym, ap, subst}
-use Rattle.std.proofs.Common.{arith, ◌∙◌, ◌++◌, append_assoc, append-nil, if◌then◌else◌}
+use Rattle.std.proofs.Common.{false, length, Option, Some, None, Ok, refl, sym, subst}
+use Rattle.std.proofs.Common.{arith, ◌∙◌, ◌++◌, append_assoc, append-nil}
 use Rattle.std.proofs.lemmas.List.{length-map}
 use Rattle.std.proofs.Math.Nat.{le_refl}
-use Rattle.tptp_words.specs.Text.{Token, Placed, tokens}
-use Rattle.tptp_phrases.specs.Phrase.{Phrase, Variant, empty, ◌>>=◌, ◌>>◌, ◌or◌, many}
+use Rattle.tptp_words.specs.Text.{Token, Placed}
+use Rattle.tptp_phrases.specs.Phrase.{Phrase, Variant, empty, ◌>>=◌, ◌or◌, many}
 use Rattle.tptp_words.specs.Scanning.{Left}
-use Rattle.tptp_phrases.specs.Readers.{seen, Outcome, Reader, goes_on, choose, give, seq}
+use Rattle.tptp_phrases.specs.Readers.{seen, Reader, goes_on, give, seq}
 use Rattle.tptp_phrases.specs.Readers.{and_then, many_from, many_at}
-use Rattle.tptp_phrases.proofs.Outcomes.{Stops, Read, Parses, Reading, Dead, Starts, Opens, Follows}
+use Rattle.tptp_phrases.proofs.Outcomes.{Stops, Read, Parses, Reading, Starts, Follows}
 use Rattle.tptp_phrases.proofs.Outcomes.{Apart, Within, Inside, StraysApart, StrayAt, IsLater}
 use Rattle.tptp_phrases.proofs.Outcomes.{left_of, First}
 use Rattle.tptp_phrases.proofs.Sequences.{parses_bind, parses_empty, not_later, later_bind}

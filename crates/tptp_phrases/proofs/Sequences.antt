@@ -1,9 +1,9 @@
 -- How what is said of outcomes goes through a sequence.
-use Rattle.std.proofs.Common.{◌≡◌, ℕ, ◌+◌, ◌≤◌, ◌⊎◌, inl, inr, List, [], ◌∷◌, Bool, true, false}
-use Rattle.std.proofs.Common.{length, Option, Some, None, Result, Ok, Err, refl, sym, ap, subst}
+use Rattle.std.proofs.Common.{◌≡◌, ℕ, ◌≤◌, ◌⊎◌, inl, inr, List, [], Bool}
+use Rattle.std.proofs.Common.{length, Ok, Err, refl, sym, ap, subst}
 use Rattle.std.proofs.Common.{arith, ◌∙◌, ◌++◌, append_assoc}
 use Rattle.std.proofs.Math.Nat.{le_trans, le_refl, le_of_eq}
-use Rattle.tptp_words.specs.Text.{Token, Placed}
+use Rattle.tptp_words.specs.Text.{Token}
 use Rattle.tptp_phrases.specs.Phrase.{Phrase, Variant, empty, ◌>>=◌}
 use Rattle.tptp_words.specs.Scanning.{Left}
 use Rattle.tptp_phrases.specs.Readers.{seen, Cause, Syntax, TooDeep, Stray, Outcome, Reader}

@@ -1,16 +1,16 @@
 -- What is said of a reader of one word, and of the places where only stray words stand.
-use Rattle.std.proofs.Common.{◌≡◌, ℕ, ◌≤◌, ◌⊎◌, inl, inr, List, [], ◌∷◌, Bool, true, false, length}
-use Rattle.std.proofs.Common.{Option, Some, None, is_some, Result, Ok, Err, refl, sym, ap, subst}
-use Rattle.std.proofs.Common.{arith, ◌∙◌, ◌++◌}
+use Rattle.std.proofs.Common.{◌≡◌, ℕ, ◌≤◌, inl, inr, List, [], ◌∷◌, Bool, length}
+use Rattle.std.proofs.Common.{Option, Some, None, Err, refl, ap, subst}
+use Rattle.std.proofs.Common.{arith}
 use Rattle.std.proofs.Math.Nat.{le_refl, le_of_eq}
 use Rattle.tptp_words.specs.declared.word.WordError.{WordError}
 use Rattle.tptp_words.specs.Text.{Token, Placed, tokens}
-use Rattle.tptp_phrases.specs.Phrase.{Phrase, Variant, word, nothing, stray}
+use Rattle.tptp_phrases.specs.Phrase.{Variant, word, nothing, stray}
 use Rattle.tptp_words.specs.Scanning.{Left}
-use Rattle.tptp_phrases.specs.Readers.{seen, Cause, Syntax, TooDeep, Stray, Outcome, Reader}
+use Rattle.tptp_phrases.specs.Readers.{seen}
 use Rattle.tptp_phrases.specs.Readers.{taken, take_from, take_word, refuse, refuse_stray, cause_of}
-use Rattle.tptp_phrases.specs.Readers.{stray_cause, goes_on}
-use Rattle.tptp_phrases.proofs.Outcomes.{Stops, Read, Refused, Deeper, Any, Leaves, Takes, Parses}
+use Rattle.tptp_phrases.specs.Readers.{stray_cause}
+use Rattle.tptp_phrases.proofs.Outcomes.{Refused, Any, Leaves, Parses}
 use Rattle.tptp_phrases.proofs.Outcomes.{IsLater, left_of, Reading, never}
 use Rattle.tptp_phrases.proofs.Sequences.{not_later}
 
@@ -35,7 +35,8 @@ module _ {A : Type 0} (f : Token → Option A) (w : Placed) (ws : List Placed) w
     begun = λ _ _. inl refl;
     inside = le_refl (length (w.token ∷ tokens ws));
     within = λ i r _ h. elim h [
-      inl j ↦ le_of_eq (ap length j) | inr j ↦ untaken j.0 j.1 e j.2 j.3
+      | inl j ↦ le_of_eq (ap length j)
+      | inr j ↦ untaken j.0 j.1 e j.2 j.3
     ];
     whole = λ i r x _ d. untaken d.0 x e d.1 d.2;
     none = λ i r x _ d _. untaken d.0 x e d.1 d.2;
@@ -108,7 +109,8 @@ module _ {K : Type 0} (A : Type 0) (kind : Token → Option K) (c : Token → Bo
     begun = λ _ _. inl refl;
     inside = le_refl (length ws);
     within = λ i r n h. elim h [
-      inl j ↦ le_of_eq (ap length j) | inr j ↦ absurd (none_there i j.0 r j.1 n j.2 j.3 j.4)
+      | inl j ↦ le_of_eq (ap length j)
+      | inr j ↦ absurd (none_there i j.0 r j.1 n j.2 j.3 j.4)
     ];
     whole = λ i r x _ d. absurd d;
     none = λ i r x _ d _. d;

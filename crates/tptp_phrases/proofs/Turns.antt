@@ -1,6 +1,6 @@
 -- The turns of a loop over items, and the levels of a function that goes deeper.
 use Rattle.std.proofs.Common.{◌≡◌, ℕ, zero, suc, ◌+◌, ◌-◌, ◌≤◌, ◌<◌, List, [], ◌∷◌, ◌++◌, Bool, true}
-use Rattle.std.proofs.Common.{false, length, Option, Result, Ok, Err, refl, sym, ◌∙◌, ap, subst, arith}
+use Rattle.std.proofs.Common.{false, length, Option, Ok, Err, refl, sym, ◌∙◌, ap, subst, arith}
 use Rattle.std.proofs.Common.{if◌then◌else◌}
 use Rattle.std.proofs.Math.Nat.{le_refl}
 use Rattle.std.proofs.lemmas.List.{length-map}
@@ -9,7 +9,7 @@ use Rattle.tptp_words.specs.Scanning.{Left}
 use Rattle.tptp_phrases.specs.Phrase.{Phrase, Variant}
 use Rattle.tptp_phrases.specs.Readers.{Cause, Outcome, Reader, seen, and_then, goes_on, choose, seq, give}
 use Rattle.tptp_phrases.specs.Readers.{many_from, many_at, levels_at, at_limit, limit_cause, RuleReader}
-use Rattle.tptp_phrases.proofs.Outcomes.{Parses, Read, Reading}
+use Rattle.tptp_phrases.proofs.Outcomes.{Parses}
 use Rattle.tptp_phrases.proofs.Repetition.{Repeats, shorter_read}
 
 -- ---- loops

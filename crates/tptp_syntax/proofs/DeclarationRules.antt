@@ -1,19 +1,18 @@
 -- The readers of whole types and of declarations read them.
-use Rattle.std.proofs.Common.{◌≡◌, ℕ, zero, suc, List, [], ◌∷◌, Bool, true, false, ◌||◌, length}
-use Rattle.std.proofs.Common.{Option, Some, None, refl, ◌<◌, ◌≤◌, ◌-◌, Err}
+use Rattle.std.proofs.Common.{◌≡◌, ℕ, List}
+use Rattle.std.proofs.Common.{Some, None, refl, ◌<◌, ◌≤◌, ◌-◌, Err}
 use Rattle.tptp_words.specs.Scanning.{Left}
 use Rattle.tptp_phrases.specs.Readers.{behind, limit_cause, seen}
 use Rattle.tptp_phrases.proofs.Repetition.{Repeats}
 use Rattle.tptp_phrases.proofs.Turns.{no_level, some_level}
 use Rattle.tptp_syntax.proofs.SharedRules.{after_commas, repeats_behind}
 use Rattle.std.specs.Prelude.{codes}
-use Rattle.tptp_words.specs.Text.{Token}
 use Rattle.tptp_words.specs.Words.{name, variable, mark, dollar}
-use Rattle.tptp_phrases.specs.Phrase.{Phrase, Variant, empty, word, stray, ◌>>=◌, ◌>>◌, ◌or◌, many}
+use Rattle.tptp_phrases.specs.Phrase.{Phrase, empty, word, ◌>>=◌, ◌>>◌, ◌or◌}
 use Rattle.tptp_phrases.specs.Phrase.{deeper, nested}
 use Rattle.tptp_phrases.specs.Readers.{Reader, no_strays, takes, take_word, give, choose, refuse_stray}
 use Rattle.tptp_phrases.specs.Readers as d
-use Rattle.tptp_phrases.proofs.Outcomes.{Reading, Starts, Opens, Apart, Within, Inside, never}
+use Rattle.tptp_phrases.proofs.Outcomes.{Reading, Starts, Opens, never}
 use Rattle.tptp_phrases.proofs.Sequences.{reads_then, reads_give}
 use Rattle.tptp_phrases.proofs.Forms.{Same, reads_same, starts_same, opens_same, factor, same_path}
 use Rattle.tptp_phrases.proofs.Firsts.{opens_word, opens_bind, opens_or, starts_bind, starts_or}
@@ -21,21 +20,19 @@ use Rattle.tptp_phrases.proofs.Firsts.{follows_empty, follows_or, follows_starts
 use Rattle.tptp_phrases.proofs.Choices.{reads_word_then, starts_word_then, reads_optional}
 use Rattle.tptp_phrases.proofs.Choices.{reads_or, off_starts, off_starts_stray}
 use Rattle.tptp_phrases.proofs.Limits.{ReadsRule, reads_nested, reads_deeper, starts_nested}
-use Rattle.tptp_phrases.proofs.Limits.{opens_nested}
 use Rattle.tptp_syntax.specs.declared.types.TypeExpr.{TypeExpr}
 use Rattle.tptp_syntax.specs.declared.types.TypeExpr.TheVariants as y
-use Rattle.tptp_syntax.specs.declared.types.Bound.{Bound}
-use Rattle.tptp_syntax.specs.Strays.{Stray, stray_type}
-use Rattle.tptp_syntax.specs.Grammar.{Kind, sign, pair, quantified, type_variable, unit_type, product}
+use Rattle.tptp_syntax.specs.Strays.{stray_type}
+use Rattle.tptp_syntax.specs.Grammar.{Kind, sign, pair, type_variable, unit_type, product}
 use Rattle.tptp_syntax.specs.Grammar.{type_rule, type_of, declaration_rule, declaration}
-use Rattle.tptp_syntax.specs.Descent.{Reads, expect, sees, type_variable_at, unit_type_at, product_at}
+use Rattle.tptp_syntax.specs.Descent.{Reads, sees, type_variable_at, unit_type_at, product_at}
 use Rattle.tptp_syntax.specs.Descent.{type_rule_at, opens_unit_type, opens_type, type_inside, type_at}
 use Rattle.tptp_syntax.specs.Descent.{declaration_rule_at, opens_declaration, declaration_inside}
 use Rattle.tptp_syntax.specs.Descent.{declaration_at, pair_at}
-use Rattle.tptp_syntax.proofs.KnownWords.{mark_apart, mark_inside, name_apart, strays_apart, by_mark}
+use Rattle.tptp_syntax.proofs.KnownWords.{mark_apart, name_apart, strays_apart, by_mark}
 use Rattle.tptp_syntax.proofs.KnownWords.{within_second, within_self, inside_first}
 use Rattle.tptp_syntax.proofs.SharedRules.{or_comma, left, paired, starts_paired, reads_paired}
-use Rattle.tptp_syntax.proofs.SharedRules.{starts_binder, opens_binder, reads_binder, bracketed}
+use Rattle.tptp_syntax.proofs.SharedRules.{starts_binder, opens_binder, reads_binder}
 use Rattle.tptp_syntax.proofs.SharedRules.{starts_bracketed, opens_bracketed, reads_bracketed}
 use Rattle.tptp_syntax.proofs.TypeRules.{goes_product, goes_type, left_in_type, starts_unit_type}
 use Rattle.tptp_syntax.proofs.TypeRules.{opens_a_unit_type, reads_unit_type, starts_product}

@@ -1,45 +1,39 @@
 -- The readers of entries and files read them.
-use Rattle.std.proofs.Common.{◌≡◌, ℕ, zero, suc, List, [], ◌∷◌, ◌++◌, Bool, true, false, ◌||◌, length}
-use Rattle.std.proofs.Common.{Option, Some, None, is_some, refl, ◌≤◌, arith, if◌then◌else◌}
+use Rattle.std.proofs.Common.{◌≡◌, ℕ, List, [], ◌∷◌, ◌++◌, Bool, true, false, ◌||◌}
+use Rattle.std.proofs.Common.{Some, None, is_some, refl, arith, if◌then◌else◌}
 use Rattle.std.specs.Prelude.{codes}
 use Rattle.tptp_words.specs.declared.word.WordKind.{WordKind}
 use Rattle.tptp_words.specs.declared.word.WordKind.TheVariants as kind
 use Rattle.tptp_words.specs.Text.{Token}
-use Rattle.tptp_words.specs.Words.{name, mark, keyword, same}
-use Rattle.tptp_phrases.specs.Phrase.{Phrase, Variant, empty, word, stray, ◌>>=◌, ◌>>◌, ◌or◌, many}
+use Rattle.tptp_words.specs.Words.{mark, keyword, same}
+use Rattle.tptp_phrases.specs.Phrase.{Phrase, empty, word, stray, ◌>>=◌, ◌>>◌, ◌or◌, many}
 use Rattle.tptp_phrases.specs.Phrase.{balanced}
-use Rattle.tptp_phrases.specs.Readers.{Reader, no_strays, takes, take_word, give, choose, refuse_stray}
-use Rattle.tptp_phrases.specs.Readers.{skip_balanced, many_at}
-use Rattle.tptp_phrases.specs.Readers as d
-use Rattle.tptp_phrases.proofs.Outcomes.{Reading, Starts, Opens, Apart, Within, Inside, StraysApart}
-use Rattle.tptp_phrases.proofs.Outcomes.{Follows, never}
+use Rattle.tptp_phrases.specs.Readers.{no_strays, takes}
+use Rattle.tptp_phrases.proofs.Outcomes.{Reading, Starts, Apart, StraysApart}
+use Rattle.tptp_phrases.proofs.Outcomes.{never}
 use Rattle.tptp_phrases.proofs.Sequences.{reads_then, reads_give}
 use Rattle.tptp_phrases.proofs.Forms.{Same, reads_same, starts_same, same_map, same_path}
-use Rattle.tptp_phrases.proofs.Firsts.{opens_word, opens_bind, opens_or_stray, starts_bind}
+use Rattle.tptp_phrases.proofs.Firsts.{opens_word, opens_bind, opens_or_stray}
 use Rattle.tptp_phrases.proofs.Firsts.{starts_or_stray, follows_empty, follows_never}
 use Rattle.tptp_phrases.proofs.Choices.{reads_word_then, starts_word_then, reads_optional}
 use Rattle.tptp_phrases.proofs.Choices.{reads_to_word, reads_or, reads_or_stray, off_starts_stray}
-use Rattle.tptp_phrases.proofs.Choices.{reads_within, follows_optional}
+use Rattle.tptp_phrases.proofs.Choices.{follows_optional}
 use Rattle.tptp_phrases.proofs.Repetition.{Repeats, reads_more, more}
 use Rattle.tptp_phrases.proofs.Balance.{goes_balanced, reads_balanced}
-use Rattle.tptp_syntax.specs.declared.types.TypeExpr.{TypeExpr}
 use Rattle.tptp_syntax.specs.declared.entry.Entry.{Entry}
 use Rattle.tptp_syntax.specs.declared.entry.Entry.TheVariants as e
-use Rattle.tptp_syntax.specs.declared.entry.File.{File}
-use Rattle.tptp_syntax.specs.declared.entry.StatedRole.{StatedRole}
 use Rattle.tptp_syntax.specs.declared.entry.StatedRole.TheVariants.{Hypothesis, Conjecture}
 use Rattle.tptp_syntax.specs.declared.language.Language.{Language}
 use Rattle.tptp_syntax.specs.declared.language.Language.TheVariants.{Tff, Fof}
 use Rattle.tptp_syntax.specs.Strays.{Stray, OfRole, OfInclude, OfLanguage, label, language, role}
 use Rattle.tptp_syntax.specs.Strays.{stray_language, stray_role, is_one_of, hypotheses, only_if}
 use Rattle.tptp_syntax.specs.Strays.{unless, language_of, role_of, stray_language_of, stray_role_of}
-use Rattle.tptp_syntax.specs.Strays.{is_role}
 use Rattle.tptp_syntax.specs.Grammar.{Kind, sign, notes, statement, content, entry, file, formula}
-use Rattle.tptp_syntax.specs.Grammar.{declaration}
-use Rattle.tptp_syntax.specs.Descent.{Reads, expect, sees, notes_at, statement_at, content_at, entry_at}
-use Rattle.tptp_syntax.specs.Descent.{any_word, file_at}
+use Rattle.tptp_syntax.specs.Descent.{sees, notes_at, statement_at, content_at, entry_at}
+use Rattle.tptp_syntax.specs.Descent.{any_word, file_at, ending_at, annotated_at}
+use Rattle.tptp_phrases.proofs.Forms.{same_trans, same_assoc, same_then, same_given}
 use Rattle.tptp_syntax.proofs.KnownWords.{mark_apart, mark_inside, strays_apart, by_keyword}
-use Rattle.tptp_syntax.proofs.KnownWords.{within_first, within_second, within_self, apart_or}
+use Rattle.tptp_syntax.proofs.KnownWords.{within_first, within_second, within_self}
 use Rattle.tptp_syntax.proofs.TypeRules.{goes_type}
 use Rattle.tptp_syntax.proofs.DeclarationRules.{reads_declaration}
 use Rattle.tptp_syntax.proofs.FormulaRules.{goes_formula, reads_formula}
@@ -155,10 +149,30 @@ annotated i =
 comma_apart : Apart (sees (codes ",")) goes_content
 comma_apart = mark_apart (codes ",") goes_content refl
 
-reads_annotated : (b : ℕ) → Reading annotated never b (d.◌>>=◌ (take_word language) (λ l.
-    d.◌>>◌ (expect (codes "(")) (d.◌>>=◌ (take_word label) (λ n. d.◌>>◌ (expect (codes ","))
-    (d.◌>>=◌ (content_at l b n) (λ x. d.◌>>◌ notes_at (d.◌>>◌ (expect (codes ")"))
-    (d.◌>>◌ (expect (codes ".")) (give x)))))))))
+-- what closes an entry
+abbrev closing : Kind → Phrase (Unit {0})
+closing i = notes >> (sign (codes ")") >> (sign (codes ".") >> empty tt))
+
+reads_closing : (b : ℕ) → Reading closing never b ending_at
+reads_closing b =
+    reads_to_word (mark (codes ")")) (λ i _ _. sign (codes ".") >> empty tt)
+    (mark_apart (codes ")") goes_notes refl) (reads_notes b) (λ _.
+    reads_word_then (mark (codes ")")) (λ _. reads_word_then (mark (codes ".")) (λ _.
+    reads_give tt never b)))
+
+given_begins : (x : Entry) (ws : List Token) → (empty x).begins ws ws
+unfolding empty
+given_begins x ws = refl
+
+same_closing : (x : Entry) (i : Kind) → Same (closing i >> empty x)
+    (notes >> (sign (codes ")") >> (sign (codes ".") >> empty x)))
+same_closing x i =
+    same_trans (same_assoc notes _ (λ _. empty x)) (same_then notes (λ _.
+    same_trans (same_assoc (sign (codes ")")) _ (λ _. empty x)) (same_then (sign (codes ")")) (λ _.
+    same_trans (same_assoc (sign (codes ".")) _ (λ _. empty x)) (same_then (sign (codes ".")) (λ _.
+    same_given tt (λ _. empty x) (given_begins x)))))))
+
+reads_annotated : (b : ℕ) → Reading annotated never b (annotated_at b)
 reads_annotated b =
     reads_word_then language (λ l. reads_word_then (mark (codes "(")) (λ _.
     reads_word_then label (λ n. reads_word_then (mark (codes ",")) (λ _.
@@ -168,10 +182,9 @@ reads_annotated b =
     (starts_word_then (mark (codes ",")) _ no_strays)
     (λ _. starts_word_then (mark (codes ")")) _ no_strays) comma_apart
     (mark_apart (codes ")") goes_content refl))
-    (λ x. reads_to_word (mark (codes ")")) (λ i _ _. sign (codes ".") >> empty x)
-    (mark_apart (codes ")") goes_notes refl) (reads_notes b) (λ _.
-    reads_word_then (mark (codes ")")) (λ _. reads_word_then (mark (codes ".")) (λ _.
-    reads_give x never b))))))))
+    (λ x. reads_same (same_closing x)
+    (reads_then (reads_closing b) (λ _. follows_never (λ _. empty x) never)
+    (λ _. reads_give x never b)))))))
 
 same_entry : (i : Kind) → Same (annotated i or stray stray_language i) (entry i)
 unfolding entry

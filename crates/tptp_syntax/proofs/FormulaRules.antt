@@ -1,5 +1,5 @@
 -- The readers of formulas read them.
-use Rattle.std.proofs.Common.{◌≡◌, ℕ, zero, suc, List, [], ◌∷◌, Bool, true, false, ◌||◌, length}
+use Rattle.std.proofs.Common.{◌≡◌, ℕ, List, Bool, false, ◌||◌}
 use Rattle.std.proofs.Common.{Option, Some, None, refl}
 use Rattle.std.specs.Prelude.{codes}
 use Rattle.std.proofs.Common.{◌<◌, ◌≤◌, ◌-◌, ◌+◌, Err, inl, inr, sym, ap, subst}
@@ -12,22 +12,19 @@ use Rattle.tptp_syntax.specs.Ahead.{IsJoining}
 use Rattle.tptp_syntax.specs.Ahead.{fixed as fixed_word}
 use Rattle.tptp_syntax.proofs.SharedRules.{after_commas, repeats_behind}
 use Rattle.tptp_words.specs.Text.{Token}
-use Rattle.tptp_words.specs.Words.{name, variable, mark, dollar}
-use Rattle.tptp_phrases.specs.Phrase.{Phrase, Variant, empty, word, stray, ◌>>=◌, ◌>>◌, ◌or◌, many}
+use Rattle.tptp_words.specs.Words.{variable, mark}
+use Rattle.tptp_phrases.specs.Phrase.{Phrase, empty, word, ◌>>=◌, ◌>>◌, ◌or◌}
 use Rattle.tptp_phrases.specs.Phrase.{deeper, nested}
-use Rattle.tptp_phrases.specs.Readers.{Reader, no_strays, takes, take_word, give, choose, refuse_stray}
-use Rattle.tptp_phrases.specs.Readers as d
-use Rattle.tptp_phrases.proofs.Outcomes.{Reading, Starts, Opens, Apart, Within, Inside, StraysApart}
-use Rattle.tptp_phrases.proofs.Outcomes.{Follows}
+use Rattle.tptp_phrases.specs.Readers.{no_strays, takes, choose}
+use Rattle.tptp_phrases.proofs.Outcomes.{Reading, Starts, Opens, Apart, Inside, StraysApart}
 use Rattle.tptp_phrases.proofs.Sequences.{reads_then, reads_give}
-use Rattle.tptp_phrases.proofs.Forms.{Same, reads_same, starts_same, opens_same, factor, factor_next}
+use Rattle.tptp_phrases.proofs.Forms.{Same, reads_same, factor, factor_next}
 use Rattle.tptp_phrases.proofs.Forms.{same_path}
-use Rattle.tptp_phrases.proofs.Firsts.{opens_word, opens_bind, opens_or, starts_bind, starts_or}
+use Rattle.tptp_phrases.proofs.Firsts.{opens_word, opens_bind, opens_or, starts_or}
 use Rattle.tptp_phrases.proofs.Firsts.{follows_empty, follows_or, follows_starts}
 use Rattle.tptp_phrases.proofs.Choices.{reads_word_then, starts_word_then, reads_optional}
-use Rattle.tptp_phrases.proofs.Choices.{reads_or, off_starts, off_starts_stray, off_or}
-use Rattle.tptp_phrases.proofs.Limits.{ReadsRule, reads_nested, reads_deeper, starts_nested}
-use Rattle.tptp_phrases.proofs.Limits.{opens_nested}
+use Rattle.tptp_phrases.proofs.Choices.{reads_or, off_starts, off_starts_stray}
+use Rattle.tptp_phrases.proofs.Limits.{ReadsRule, reads_nested, reads_deeper}
 use Rattle.tptp_syntax.specs.declared.types.Bound.{Bound}
 use Rattle.tptp_syntax.specs.declared.formula.RawFormula.{RawFormula}
 use Rattle.tptp_syntax.specs.declared.formula.RawFormula.TheVariants as f
@@ -40,7 +37,7 @@ use Rattle.tptp_syntax.specs.Descent.{formula_at_of, unit_rule_at, opens_literal
 use Rattle.tptp_syntax.specs.Descent.{unit_inside, unit_at, formula_at, equates, chain_at}
 use Rattle.tptp_syntax.proofs.KnownWords.{mark_apart, mark_inside, dollar_apart, strays_apart}
 use Rattle.tptp_syntax.proofs.KnownWords.{by_mark, by_connective, within_second, within_self}
-use Rattle.tptp_syntax.proofs.KnownWords.{inside_first, apart_or, inside_or}
+use Rattle.tptp_syntax.proofs.KnownWords.{inside_first, apart_or}
 use Rattle.tptp_syntax.proofs.SharedRules.{or_comma, left, chained, starts_chained, reads_chained}
 use Rattle.tptp_syntax.proofs.SharedRules.{binder, starts_binder, opens_binder, reads_binder}
 use Rattle.tptp_syntax.proofs.SharedRules.{bracketed, starts_bracketed, opens_bracketed}

@@ -1,6 +1,6 @@
 -- What is known of a word that passes a test, and the tests that no word passes both.
 use Rattle.std.proofs.Common.{◌≡◌, ℕ, List, [], ◌∷◌, Bool, true, false, ◌||◌, Option, Some, None}
-use Rattle.std.proofs.Common.{arith, is_some, refl, sym, ap, subst, ◌∙◌, if◌then◌else◌, ◌==◌}
+use Rattle.std.proofs.Common.{is_some, refl, sym, subst, if◌then◌else◌, ◌==◌}
 use Rattle.std.proofs.lemmas.Bool.{eqb-true}
 use Rattle.tptp_words.specs.declared.word.WordKind.{WordKind}
 use Rattle.tptp_words.specs.declared.word.WordKind.TheVariants as kind

@@ -9,3 +9,7 @@ pub mod SameTexts
 pub mod WholeFile
 pub mod Taken
 pub mod ListsRead
+pub mod SkippedWords
+pub mod GrammarFronts
+pub mod OneAnswer
+pub mod Verdicts

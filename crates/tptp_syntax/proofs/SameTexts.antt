@@ -1,6 +1,6 @@
 -- When two texts are the same.
-use Rattle.std.proofs.Common.{◌≡◌, ℕ, List, [], ◌∷◌, Bool, true, false, ◌&&◌, refl, ap}
-use Rattle.std.specs.Prelude.{◌==◌, if◌then◌else◌, eqb}
+use Rattle.std.proofs.Common.{◌≡◌, ℕ, List, [], ◌∷◌, Bool, true, false, ◌&&◌, refl}
+use Rattle.std.specs.Prelude.{if◌then◌else◌, eqb}
 use lib.Pointwise.{pointwise}
 use Rattle.tptp_words.specs.Words.{same}
 

@@ -1,28 +1,24 @@
 -- The readers of the parts that several rules share read them.
-use Rattle.std.proofs.Common.{◌≡◌, ℕ, zero, suc, List, [], ◌∷◌, Bool, true, false, ◌||◌, length}
-use Rattle.std.proofs.Common.{Option, Some, None, refl, arith}
+use Rattle.std.proofs.Common.{ℕ, List, [], ◌∷◌, Bool, ◌||◌, length}
+use Rattle.std.proofs.Common.{Option, arith}
 use Rattle.std.specs.Prelude.{codes}
 use Rattle.tptp_words.specs.Text.{Token}
 use Rattle.tptp_words.specs.Words.{name, mark, dollar}
-use Rattle.tptp_phrases.specs.Phrase.{Phrase, Variant, empty, word, ◌>>=◌, ◌>>◌, ◌or◌, many}
-use Rattle.tptp_phrases.specs.Readers.{Reader, no_strays, takes, take_word, give, choose, behind}
-use Rattle.tptp_phrases.specs.Readers.{many_at}
-use Rattle.tptp_phrases.specs.Readers as d
-use Rattle.tptp_phrases.proofs.Outcomes.{Reading, Starts, Opens, Follows, Apart, Within, Inside, never}
+use Rattle.tptp_phrases.specs.Phrase.{Phrase, empty, word, ◌>>=◌, ◌>>◌, ◌or◌, many}
+use Rattle.tptp_phrases.specs.Readers.{no_strays, takes, behind}
+use Rattle.tptp_phrases.proofs.Outcomes.{Reading, Starts, Opens, Apart, Within, Inside, never}
 use Rattle.tptp_phrases.proofs.Sequences.{reads_then, reads_give}
 use Rattle.tptp_phrases.proofs.Forms.{Same, reads_same, starts_same, opens_same, factor, same_map}
 use Rattle.tptp_phrases.proofs.Forms.{same_trans, same_assoc, same_then}
 use Rattle.tptp_phrases.proofs.Firsts.{opens_word, opens_bind, starts_bind, follows_never, follows_empty}
-use Rattle.tptp_phrases.proofs.Firsts.{follows_or, follows_starts}
 use Rattle.tptp_phrases.proofs.Choices.{reads_word_then, reads_to_word, starts_word_then, reads_optional}
 use Rattle.tptp_phrases.proofs.Repetition.{Repeats, reads_more, more_follows, more}
-use Rattle.std.proofs.Common.{◌≤◌}
 use Rattle.tptp_syntax.specs.declared.types.Bound.{Bound}
 use Rattle.tptp_syntax.specs.Strays.{Stray}
-use Rattle.tptp_syntax.specs.Grammar.{Kind, sign, listed, arguments, application, chain, pair, quantified}
-use Rattle.tptp_syntax.specs.Descent.{Reads, expect, sees, listed_at, arguments_at, application_at}
+use Rattle.tptp_syntax.specs.Grammar.{Kind, sign, listed, arguments, application, quantified}
+use Rattle.tptp_syntax.specs.Descent.{Reads, sees, listed_at, arguments_at, application_at}
 use Rattle.tptp_syntax.specs.Descent.{chain_at, pair_at, quantified_at, dollar_at, bracketed_at}
-use Rattle.tptp_syntax.proofs.KnownWords.{mark_apart, mark_inside, within_first, within_second}
+use Rattle.tptp_syntax.proofs.KnownWords.{within_second}
 use Rattle.tptp_syntax.proofs.KnownWords.{within_self, inside_first}
 
 -- words that may go on with a list of phrases that words of c go on with

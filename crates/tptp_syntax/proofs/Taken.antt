@@ -1,10 +1,10 @@
 -- What a reader of one word gives, by what the word stands for.
-use Rattle.std.proofs.Common.{◌≡◌, ℕ, List, [], ◌∷◌, Bool, true, false, Option, Some, None, Ok, Err}
+use Rattle.std.proofs.Common.{◌≡◌, List, [], ◌∷◌, true, false, Option, Some, None, Ok, Err}
 use Rattle.std.proofs.Common.{is_some, refl, sym, ap, ◌∙◌}
 use Rattle.tptp_words.specs.declared.word.WordError.{WordError}
 use Rattle.tptp_words.specs.Text.{Token, Placed}
 use Rattle.tptp_words.specs.Scanning.{Left}
-use Rattle.tptp_phrases.specs.Readers.{Syntax, Outcome, seen, goes_on, takes, taken, take_from, take_word}
+use Rattle.tptp_phrases.specs.Readers.{Syntax, seen, goes_on, takes, taken, take_from, take_word}
 use Rattle.tptp_syntax.specs.Strays as stray
 use Rattle.tptp_syntax.specs.Ahead.{first_as, rest_of, behind_first}
 

@@ -1,6 +1,6 @@
 -- The readers of terms, atoms and equations read them.
-use Rattle.std.proofs.Common.{◌≡◌, ℕ, zero, suc, List, [], ◌∷◌, Bool, true, false, ◌||◌, length}
-use Rattle.std.proofs.Common.{Option, Some, None, refl, inl}
+use Rattle.std.proofs.Common.{◌≡◌, ℕ, List, [], Bool, ◌||◌}
+use Rattle.std.proofs.Common.{Option, None, refl, inl}
 use Rattle.std.specs.Prelude.{codes}
 use Rattle.std.proofs.Common.{◌<◌, ◌≤◌, ◌-◌, Err}
 use Rattle.tptp_words.specs.Scanning.{Left}
@@ -11,11 +11,11 @@ use Rattle.tptp_syntax.proofs.SharedRules.{after_commas}
 use Rattle.tptp_words.specs.declared.word.WordKind.TheVariants as kind
 use Rattle.tptp_words.specs.Text.{Token}
 use Rattle.tptp_words.specs.Words.{name, variable, mark, dollar}
-use Rattle.tptp_phrases.specs.Phrase.{Phrase, Variant, empty, word, stray, ◌>>=◌, ◌>>◌, ◌or◌, many}
+use Rattle.tptp_phrases.specs.Phrase.{Phrase, empty, word, stray, ◌>>=◌, ◌>>◌, ◌or◌}
 use Rattle.tptp_phrases.specs.Phrase.{deeper, nested}
 use Rattle.tptp_phrases.specs.Readers.{Reader, no_strays, takes, take_word, give, choose, refuse_stray}
 use Rattle.tptp_phrases.specs.Readers as d
-use Rattle.tptp_phrases.proofs.Outcomes.{Reading, Starts, Opens, Apart, Within, Inside, never}
+use Rattle.tptp_phrases.proofs.Outcomes.{Reading, Starts, Opens, Apart, never}
 use Rattle.tptp_phrases.proofs.Outcomes.{StraysApart}
 use Rattle.tptp_phrases.proofs.Sequences.{reads_then, reads_give}
 use Rattle.tptp_phrases.proofs.Forms.{Same, reads_same, starts_same, opens_same, factor, same_path}
@@ -27,8 +27,7 @@ use Rattle.tptp_phrases.proofs.Firsts.{starts_or, starts_or_stray, follows_empty
 use Rattle.tptp_phrases.proofs.Firsts.{follows_starts, follows_never}
 use Rattle.tptp_phrases.proofs.Choices.{reads_word_then, starts_word_then, reads_optional}
 use Rattle.tptp_phrases.proofs.Choices.{reads_or, reads_or_stray, off_starts, off_starts_stray}
-use Rattle.tptp_phrases.proofs.Limits.{ReadsRule, reads_nested, reads_deeper, starts_nested}
-use Rattle.tptp_phrases.proofs.Limits.{opens_nested}
+use Rattle.tptp_phrases.proofs.Limits.{ReadsRule, reads_nested, reads_deeper}
 use Rattle.tptp_syntax.specs.declared.term.RawTerm.{RawTerm}
 use Rattle.tptp_syntax.specs.declared.term.RawTerm.TheVariants as t
 use Rattle.tptp_syntax.specs.declared.formula.RawFormula.{RawFormula}
@@ -38,9 +37,9 @@ use Rattle.tptp_syntax.specs.Grammar.{Kind, sign, arguments, application, pair, 
 use Rattle.tptp_syntax.specs.Descent.{Reads, sees, sees_dollar, variable_term_at, term_rule_at}
 use Rattle.tptp_syntax.specs.Descent.{opens_term, term_inside, term_at, applied_at, equation_at}
 use Rattle.tptp_syntax.specs.Descent.{equates, other_term_at, literal_at, opens_literal}
-use Rattle.tptp_syntax.proofs.KnownWords.{mark_apart, dollar_apart, variable_apart, name_apart}
+use Rattle.tptp_syntax.proofs.KnownWords.{mark_apart, variable_apart, name_apart}
 use Rattle.tptp_syntax.proofs.KnownWords.{strays_apart, by_dollar, by_variable, by_name, apart_or}
-use Rattle.tptp_syntax.proofs.KnownWords.{within_second, within_self, inside_first, token}
+use Rattle.tptp_syntax.proofs.KnownWords.{within_second, inside_first, token}
 use Rattle.tptp_syntax.proofs.SharedRules.{or_comma, left, starts_application, opens_application}
 use Rattle.tptp_syntax.proofs.SharedRules.{reads_application, paired, starts_paired, reads_paired}
 use Rattle.tptp_syntax.proofs.SharedRules.{fixed, starts_fixed, opens_fixed, reads_fixed}

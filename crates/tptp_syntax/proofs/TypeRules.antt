@@ -1,43 +1,34 @@
 -- The readers of types and declarations read them.
-use Rattle.std.proofs.Common.{◌≡◌, ℕ, zero, suc, List, [], ◌∷◌, Bool, true, false, ◌||◌, length}
-use Rattle.std.proofs.Common.{Option, Some, None, refl}
+use Rattle.std.proofs.Common.{◌≡◌, ℕ, List, Bool, ◌||◌}
+use Rattle.std.proofs.Common.{Option, None, refl}
 use Rattle.std.specs.Prelude.{codes}
 use Rattle.tptp_words.specs.Text.{Token}
-use Rattle.tptp_words.specs.Words.{name, variable, mark, dollar}
-use Rattle.tptp_phrases.specs.Phrase.{Phrase, Variant, empty, word, stray, ◌>>=◌, ◌>>◌, ◌or◌, many}
-use Rattle.tptp_phrases.specs.Phrase.{deeper, nested}
-use Rattle.tptp_phrases.specs.Readers.{Reader, no_strays, takes, take_word, give, choose, refuse_stray}
-use Rattle.tptp_phrases.specs.Readers as d
-use Rattle.tptp_phrases.proofs.Outcomes.{Reading, Starts, Opens, Follows, Apart, Within, Inside, never}
+use Rattle.tptp_words.specs.Words.{name, variable}
+use Rattle.tptp_phrases.specs.Phrase.{Phrase, empty, word, stray, ◌>>=◌, ◌or◌}
+use Rattle.tptp_phrases.specs.Readers.{no_strays, takes}
+use Rattle.tptp_phrases.proofs.Outcomes.{Reading, Starts, Opens, Within}
 use Rattle.tptp_phrases.proofs.Outcomes.{StraysApart}
 use Rattle.tptp_phrases.proofs.Sequences.{reads_then, reads_give}
-use Rattle.tptp_phrases.proofs.Forms.{Same, reads_same, starts_same, opens_same, factor, same_path}
+use Rattle.tptp_phrases.proofs.Forms.{Same, reads_same, starts_same, opens_same, factor}
 use Rattle.tptp_phrases.proofs.Firsts.{opens_word, opens_bind, opens_or, opens_or_stray, starts_bind}
-use Rattle.tptp_phrases.proofs.Firsts.{starts_or, starts_or_stray, follows_never, follows_empty}
+use Rattle.tptp_phrases.proofs.Firsts.{starts_or, starts_or_stray, follows_empty}
 use Rattle.tptp_phrases.proofs.Firsts.{follows_or, follows_starts}
-use Rattle.tptp_phrases.proofs.Choices.{reads_word_then, reads_to_word, starts_word_then, reads_optional}
-use Rattle.tptp_phrases.proofs.Choices.{reads_or, reads_or_stray, off_starts, off_starts_stray}
-use Rattle.tptp_phrases.proofs.Limits.{ReadsRule, reads_nested, reads_deeper, starts_nested}
-use Rattle.tptp_phrases.proofs.Limits.{opens_nested}
+use Rattle.tptp_phrases.proofs.Choices.{reads_word_then, starts_word_then, reads_optional}
+use Rattle.tptp_phrases.proofs.Choices.{reads_or, reads_or_stray, off_starts_stray}
 use Rattle.tptp_syntax.specs.declared.types.TypeExpr.{TypeExpr}
 use Rattle.tptp_syntax.specs.declared.types.TypeExpr.TheVariants as y
-use Rattle.tptp_syntax.specs.declared.types.Bound.{Bound}
 use Rattle.tptp_syntax.specs.Strays.{Stray, stray_type}
-use Rattle.tptp_syntax.specs.Grammar.{Kind, sign, listed, application, chain, pair, quantified}
-use Rattle.tptp_syntax.specs.Grammar.{type_variable, unit_type, product, type_rule, type_of}
-use Rattle.tptp_syntax.specs.Grammar.{declaration_rule, declaration}
-use Rattle.tptp_syntax.specs.Descent.{Reads, expect, sees, sees_dollar, type_variable_at, unit_type_at}
-use Rattle.tptp_syntax.specs.Descent.{product_at, type_rule_at, opens_unit_type, opens_type}
-use Rattle.tptp_syntax.specs.Descent.{type_inside, type_at, declaration_rule_at, opens_declaration}
-use Rattle.tptp_syntax.specs.Descent.{declaration_inside, declaration_at}
-use Rattle.tptp_syntax.proofs.KnownWords.{mark_apart, mark_inside, dollar_apart, variable_apart}
+use Rattle.tptp_syntax.specs.Grammar.{Kind, application}
+use Rattle.tptp_syntax.specs.Grammar.{unit_type, product}
+use Rattle.tptp_syntax.specs.Descent.{Reads, sees, sees_dollar, unit_type_at}
+use Rattle.tptp_syntax.specs.Descent.{product_at, opens_unit_type}
+use Rattle.tptp_syntax.proofs.KnownWords.{mark_apart, dollar_apart, variable_apart}
 use Rattle.tptp_syntax.proofs.KnownWords.{name_apart, strays_apart, by_mark, by_dollar, by_variable}
-use Rattle.tptp_syntax.proofs.KnownWords.{by_name, within_first, within_second, within_self}
+use Rattle.tptp_syntax.proofs.KnownWords.{by_name, within_second}
 use Rattle.tptp_syntax.proofs.KnownWords.{inside_first}
 use Rattle.tptp_syntax.proofs.SharedRules.{or_comma, left, starts_application, opens_application}
 use Rattle.tptp_syntax.proofs.SharedRules.{reads_application, chained, starts_chained, reads_chained}
-use Rattle.tptp_syntax.proofs.SharedRules.{paired, starts_paired, reads_paired, binder, starts_binder}
-use Rattle.tptp_syntax.proofs.SharedRules.{opens_binder, reads_binder, starts_bracketed}
+use Rattle.tptp_syntax.proofs.SharedRules.{starts_bracketed}
 use Rattle.tptp_syntax.proofs.SharedRules.{opens_bracketed, reads_bracketed, starts_fixed, opens_fixed}
 use Rattle.tptp_syntax.proofs.SharedRules.{reads_fixed, bracketed, fixed}
 

@@ -1,18 +1,18 @@
 -- What the reader of files says of a text.
-use Rattle.std.proofs.Common.{◌≡◌, ◌≢◌, ℕ, zero, suc, ◌+◌, ◌≤◌, ◌<◌, inl, inr, List, [], ◌∷◌, ◌++◌}
-use Rattle.std.proofs.Common.{length, Option, Some, None, Result, Ok, Err, refl, sym, ◌∙◌, subst, ap}
-use Rattle.std.proofs.Common.{arith, Bool, true, false, append-nil, map}
+use Rattle.std.proofs.Common.{◌≡◌, ℕ, zero, suc, ◌+◌, ◌≤◌, ◌<◌, inr, List, [], ◌∷◌, ◌++◌}
+use Rattle.std.proofs.Common.{length, Option, Some, None, Ok, Err, refl, sym, ◌∙◌, subst, ap}
+use Rattle.std.proofs.Common.{arith, false}
 use Rattle.std.proofs.Math.Nat.{le_refl}
 use Rattle.tptp_words.specs.declared.word.WordError.{WordError}
 use Rattle.tptp_words.specs.declared.word.WordError.TheVariants as w
 use Rattle.tptp_words.specs.Text.{Token, Placed, tokens, IsText}
 use Rattle.tptp_words.specs.Scanning.{Left}
-use Rattle.tptp_phrases.specs.Phrase.{Phrase, Variant, empty, ◌>>=◌, many}
-use Rattle.tptp_phrases.specs.Readers.{Cause, Syntax, TooDeep, Stray, Outcome, Reader, seen, goes_on}
-use Rattle.tptp_phrases.specs.Readers.{and_then, seq, give, many_from, many_at, choose}
-use Rattle.tptp_phrases.proofs.Outcomes.{Parses, Read, Refused, Deeper, Fails, Any, At, Leaves, Takes}
-use Rattle.tptp_phrases.proofs.Outcomes.{Stops, Reading, IsLater, left_of}
-use Rattle.tptp_phrases.proofs.Repetition.{Repeats, shorter_read}
+use Rattle.tptp_phrases.specs.Phrase.{empty, ◌>>=◌, many}
+use Rattle.tptp_phrases.specs.Readers.{Cause, Syntax, TooDeep, Stray, Outcome, seen, goes_on}
+use Rattle.tptp_phrases.specs.Readers.{and_then, seq, give, many_from, many_at}
+use Rattle.tptp_phrases.proofs.Outcomes.{Parses, Read, Refused, Fails, Any, At, Leaves}
+use Rattle.tptp_phrases.proofs.Outcomes.{IsLater, left_of}
+use Rattle.tptp_phrases.proofs.Repetition.{shorter_read}
 use Rattle.tptp_phrases.proofs.Choices.{chosen}
 use Rattle.tptp_syntax.specs.declared.entry.Entry.{Entry}
 use Rattle.tptp_syntax.specs.declared.entry.File.{File}
@@ -21,8 +21,8 @@ use Rattle.tptp_syntax.specs.declared.error.ReadError.TheVariants as r
 use Rattle.tptp_syntax.specs.Strays as stray
 use Rattle.tptp_syntax.specs.Grammar.{Kind, entry, file}
 use Rattle.tptp_syntax.specs.Descent.{Reads, any_word, entry_at, file_at}
-use Rattle.tptp_syntax.specs.Files.{strict, taking, DeriveWithin, Derive, SpellsWithin, BeginWithin}
-use Rattle.tptp_syntax.specs.Files.{Begin, BeginTaking, WordRefused, RefusedAt, IsRefused, Verdict}
+use Rattle.tptp_syntax.specs.Files.{strict, taking, BeginWithin}
+use Rattle.tptp_syntax.specs.Files.{RefusedAt, IsRefused, Verdict}
 use Rattle.tptp_syntax.specs.Files.{most_bytes, most_nesting, IsStrayOf}
 use Rattle.tptp_syntax.specs.Answers.{refused_at, stopped_by, refusal, unless_stopped, answer}
 use Rattle.tptp_syntax.proofs.EntryRules.{entries, reads_file}
@@ -33,7 +33,7 @@ is_empty : (ws : List Token) → length ws ≤ 0 → ws ≡ []
 is_empty [] h = refl
 is_empty (w ∷ ws) h = absurd (omega arith)
 
-abbrev Ends : {A : Type 0} → Outcome stray.Stray A → Type 0
+abbrev pub Ends : {A : Type 0} → Outcome stray.Stray A → Type 0
 Ends (Ok x) = seen x.1 ≡ []
 Ends (Err e) = Unit {0}
 
@@ -66,7 +66,7 @@ seen_words : (ws : List Placed) → length (tokens ws) ≤ length ws
 seen_words [] = le_refl 0
 seen_words (w ∷ ws) = let less = seen_words ws in omega arith
 
-read_ends : (b : ℕ) (s : Left) → Ends (file_at b s)
+pub read_ends : (b : ℕ) (s : Left) → Ends (file_at b s)
 unfolding file_at seq give many_at
 read_ends b s =
     go (many_from any_word (entry_at b) (length s.words) [] s)
@@ -85,12 +85,12 @@ short w after rest e h =
     let k : length (w ∷ after) ≤ length after = subst (λ z. length z ≤ length after) e h in
     omega arith
 
-whole_begins : (i : Kind) (ws rest : List Token) (f : File) → (file i).derives ws rest f
+pub whole_begins : (i : Kind) (ws rest : List Token) (f : File) → (file i).derives ws rest f
     → (file i).begins ws rest
 unfolding file ◌>>=◌ empty many
 whole_begins i ws rest f (m, es, row, e) = inr (m, es, row, e.0)
 
-no_words : (ws : List Placed) → tokens ws ≡ [] → ws ≡ []
+pub no_words : (ws : List Placed) → tokens ws ≡ [] → ws ≡ []
 no_words [] e = refl
 no_words (w ∷ ws) e = cc e
 
@@ -98,7 +98,7 @@ module _ (total : ℕ) (ws : List Token) where
   -- a word at which the words begin no file within the limit
   module _ (w : Placed) (after : List Placed) (N : Kind → Type 0)
       (h : Refused file any_word most_nesting N ws (w.token ∷ tokens after)) where
-    not_begun : (i : Kind) → N i → (file i).begins ws (tokens after) → ⊥
+    pub not_begun : (i : Kind) → N i → (file i).begins ws (tokens after) → ⊥
     not_begun i n b = short w.token (tokens after) (w.token ∷ tokens after) refl (h.within i (tokens after) n b)
 
   -- a stray word of the kind, and none that the grammar takes
@@ -170,7 +170,7 @@ module _ (text : List ℕ) (s : Left) (is_text : IsText (length text) text s.wor
   split_text t l = (
     l.front,
     subst (λ z. IsText (length text) text z t.fault) l.words
-    (subst (λ z. IsText (length text) text s.words z) l.fault is_text),
+        (subst (λ z. IsText (length text) text s.words z) l.fault is_text),
     l.words,
   )
 
@@ -203,7 +203,7 @@ module _ (text : List ℕ) (s : Left) (is_text : IsText (length text) text s.wor
       s.words,
       subst (λ z. IsText (length text) text s.words z) (l.fault ∙ e) is_text,
       subst (λ z. (file (strict most_nesting)).derives (seen s) z f) none
-      (h.derives (strict most_nesting) (le_refl most_nesting)),
+          (h.derives (strict most_nesting) (le_refl most_nesting)),
     ),
   )
   read_verdict f t l h none (Some x) e =
@@ -221,9 +221,9 @@ module _ (text : List ℕ) (s : Left) (is_text : IsText (length text) text s.wor
   failed_verdict why t l h [] i None j = (
     fits,
     refused_text t (r.Syntax (length text)) l (begun_before (seen s) (seen t) why h)
-    (subst (λ z. RefusedAt (length text) (seen s) t.words t.fault z)
-    (ap (λ z. refusal (length text) why z t.fault) i ∙ ap (λ z. refusal (length text) why [] z) j)
-    (failed (length text) (seen s) why t.words t.fault h)),
+        (subst (λ z. RefusedAt (length text) (seen s) t.words t.fault z)
+        (ap (λ z. refusal (length text) why z t.fault) i ∙ ap (λ z. refusal (length text) why [] z) j)
+        (failed (length text) (seen s) why t.words t.fault h)),
   )
   failed_verdict why t l h (next ∷ after) i o j =
       word_verdict why next.from (refused_text t (refused_at why next.from) l

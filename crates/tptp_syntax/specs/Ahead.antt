@@ -1,5 +1,7 @@
 -- What a reader with one word in hand has left, and what its calls give.
 use Rattle.std.specs.Prelude.{◌≡◌, ◌≢◌, ◌⊎◌, ℕ, List, [], ◌∷◌, Option, Some, None, Result, Ok, Err, codes}
+use Rattle.std.specs.Prelude.{is_some}
+use Rattle.tptp_phrases.specs.Phrase.{open_behind}
 use Rattle.tptp_words.specs.declared.word.WordError.{WordError}
 use Rattle.tptp_words.specs.Text.{Token, Placed}
 use Rattle.tptp_words.specs.Words.{mark, keyword, dollar}
@@ -80,3 +82,19 @@ cause fault.Include = Stray stray.OfInclude
 abbrev pub Gives : {A : Type 0} → Outcome stray.Stray A → Result A Fault → Left → Type 0
 Gives outcome (Ok a) new = outcome ≡ Ok (a, new)
 Gives outcome (Err e) new = e ≢ fault.Memory → outcome ≡ Err (cause e, new)
+
+-- how many brackets are open behind the next word, where so many are open before it
+abbrev pub open_first : List Token → ℕ → Option ℕ
+open_first [] open_before = None
+open_first (w ∷ ws) open_before =
+    open_behind (is_some (mark (codes "(") w)) (is_some (mark (codes ")") w)) open_before
+
+-- the error that stands next
+abbrev pub fault_first : List Placed → Option WordError → Option WordError
+fault_first [] fault = fault
+fault_first (w ∷ ws) fault = None
+
+-- where the next word begins
+abbrev pub place_first : List Placed → Option ℕ
+place_first [] = None
+place_first (w ∷ ws) = Some w.from

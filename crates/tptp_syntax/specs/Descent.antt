@@ -1,11 +1,10 @@
 -- The readers of the grammar's rules. Each takes the next word as it finds it.
-use Rattle.std.specs.Prelude.{◌≡◌, ◌≢◌, ℕ, List, [], ◌∷◌, Bool, true, ◌||◌, length, Option, Some}
-use Rattle.std.specs.Prelude.{None, codes, Result, Ok, Err}
+use Rattle.std.specs.Prelude.{ℕ, List, [], ◌∷◌, Bool, true, ◌||◌, length, Option, Some}
+use Rattle.std.specs.Prelude.{None, codes}
 use Rattle.tptp_words.specs.Text.{Token}
 use Rattle.tptp_words.specs.Words.{name, variable, mark, keyword, dollar}
-use Rattle.tptp_words.specs.Scanning.{Left}
-use Rattle.tptp_phrases.specs.Readers.{Cause, Syntax, TooDeep, Stray, Outcome, Reader, ◌>>=◌, ◌>>◌}
-use Rattle.tptp_phrases.specs.Readers.{seq, give, takes, take_word, goes_on, choose, many_at, behind}
+use Rattle.tptp_phrases.specs.Readers.{Reader, ◌>>=◌, ◌>>◌}
+use Rattle.tptp_phrases.specs.Readers.{give, takes, take_word, choose, many_at, behind}
 use Rattle.tptp_phrases.specs.Readers.{no_strays, refuse_stray, levels_at, skip_balanced}
 use Rattle.tptp_syntax.specs.declared.types.TypeExpr.{TypeExpr}
 use Rattle.tptp_syntax.specs.declared.types.TypeExpr.TheVariants as y
@@ -319,27 +318,44 @@ statement_at l n m =
       a ← formula_at l n
       give (e.Statement m r a)) (refuse_stray (stray_role l))
 
-abbrev pub content_at : Language → ℕ → List ℕ → Reads Entry
-content_at Fof n m = statement_at Fof n m
-content_at Tff n m =
+abbrev pub tff_content_at : ℕ → List ℕ → Reads Entry
+tff_content_at n m =
     choose (takes (keyword (codes "type"))) (do
       take_word (keyword (codes "type"))
       expect (codes ",")
       d ← declaration_at n
       give (e.Declaration m d.0 d.1)) (statement_at Tff n m)
 
+abbrev pub content_at : Language → ℕ → List ℕ → Reads Entry
+content_at Fof n m = statement_at Fof n m
+content_at Tff n m = tff_content_at n m
+
+-- what closes an entry
+abbrev pub ending_at : Reads (Unit {0})
+ending_at = do
+  notes_at
+  expect (codes ")")
+  expect (codes ".")
+  give tt
+
+-- what stands behind the label, up to the full stop
+abbrev pub closed_content_at : Language → ℕ → List ℕ → Reads Entry
+closed_content_at l n m = do
+  x ← content_at l n m
+  ending_at
+  give x
+
+-- an entry whose language stands next
+abbrev pub annotated_at : ℕ → Reads Entry
+annotated_at n = do
+  l ← take_word language
+  expect (codes "(")
+  m ← take_word label
+  expect (codes ",")
+  closed_content_at l n m
+
 unfoldable pub entry_at : ℕ → Reads Entry
-entry_at n =
-    choose (takes language) (do
-      l ← take_word language
-      expect (codes "(")
-      m ← take_word label
-      expect (codes ",")
-      x ← content_at l n m
-      notes_at
-      expect (codes ")")
-      expect (codes ".")
-      give x) (refuse_stray stray_language)
+entry_at n = choose (takes language) (annotated_at n) (refuse_stray stray_language)
 
 -- every word
 abbrev pub any_word : Token → Bool

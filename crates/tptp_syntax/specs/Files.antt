@@ -107,3 +107,22 @@ Verdict text (Ok f) = (length text ≤ most_bytes) × SpellsWithin most_nesting 
 Verdict text (Err r.Memory) = ⊥
 Verdict text (Err (r.TooLong bytes)) = (most_bytes < length text) × (bytes ≡ length text)
 Verdict text (Err e) = (length text ≤ most_bytes) × IsRefused text e
+
+-- ---- laws
+
+-- a text has at most one verdict: one file, or one refusal at one place
+abbrev pub OneVerdict : Type 0
+OneVerdict = (text : List ℕ) (a b : Result File ReadError) → Verdict text a → Verdict text b → a ≡ b
+
+-- a text spells at most one file, however deep it nests
+abbrev pub OneFile : Type 0
+OneFile = (text : List ℕ) (f g : File) → Spells text f → Spells text g → f ≡ g
+
+-- words derive at most one file, however deep it nests
+abbrev pub OneDerivation : Type 0
+OneDerivation = (ws : List Token) (f g : File) → Derive ws f → Derive ws g → f ≡ g
+
+-- where words begin a file, the words before each of them do
+abbrev pub FrontsBegin : Type 0
+FrontsBegin = (n : ℕ) (front ws rest : List Token) → BeginWithin n (front ++ (ws ++ rest)) rest
+    → BeginWithin n (front ++ (ws ++ rest)) (ws ++ rest)

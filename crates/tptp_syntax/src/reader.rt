@@ -414,4 +414,24 @@ impl<'a> Reader<'a> {
             _ => Fault::Syntax,
         }
     }
+
+    /// The error that stands next.
+    pub fn error(&self) -> Option<WordError>
+        ensures { result ≡ spec.fault_first self.now.words self.now.fault }
+    {
+        match self.next {
+            Next::Fault(error) => Some(error),
+            _ => None,
+        }
+    }
+
+    /// Where the next word begins.
+    pub fn place(&self) -> Option<usize>
+        ensures { result ≡ spec.place_first self.now.words }
+    {
+        match self.next {
+            Next::Word { from, .. } => Some(from),
+            _ => None,
+        }
+    }
 }

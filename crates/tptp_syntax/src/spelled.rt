@@ -84,11 +84,7 @@ pub fn label_of(alloc: Global, kind: WordKind, spelling: &[u8]) -> Result<Option
 }
 
 /// The variable's bytes.
-pub fn variable_of(
-    alloc: Global,
-    kind: WordKind,
-    spelling: &[u8],
-) -> Result<Option<Name>, NoMemory>
+pub fn variable_of(alloc: Global, kind: WordKind, spelling: &[u8]) -> Result<Option<Name>, NoMemory>
     ensures { IfOk result (λ name. name ≡ words.variable_of kind spelling.now) }
 {
     match kind {

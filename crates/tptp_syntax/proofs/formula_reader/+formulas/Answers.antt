@@ -1,7 +1,5 @@
 use Rattle.std.proofs.Common.{rules, arith, ◌≢◌, ◌≡◌, [], ◌∷◌, ◌++◌, Err, sym, ◌∙◌, ap}
-use Rattle.std.specs.Prelude.{codes}
 use Rattle.std.proofs.lemmas.Grind.{common_steps}
-use Rattle.tptp_words.specs.Words.{mark}
 use Rattle.tptp_phrases.specs.Readers.{takes, many_at, behind}
 use Rattle.tptp_phrases.proofs.Turns.{carried, turning, shorter, one_more, one_fails, no_more}
 use Rattle.tptp_syntax.specs.declared.fault.Fault.TheVariants.{Memory}
@@ -18,9 +16,9 @@ more-items-init t c = turning _ _ c.args.found c.args.reader.now
 pub more-returns-in_err-item : goal.more-returns-in_err-item
 more-returns-in_err-item t c =
     let k : c.in_err-item.field-0.0 ≢ Memory → many_at (takes (spec.fixed c.args.word))
-        (behind (spec.fixed c.args.word) (descent.unit_inside c.args.language c.args.left 1))
-        c.args.found c.args.reader.now
-        ≡ Err (cause c.in_err-item.field-0.0, c.next.new.reader) =
+    (behind (spec.fixed c.args.word) (descent.unit_inside c.args.language c.args.left 1))
+    c.args.found c.args.reader.now
+    ≡ Err (cause c.in_err-item.field-0.0, c.next.new.reader) =
     λ m. one_fails (units_after c.args.language c.args.left c.args.word c.requires) _ c.items.found c.items.reader c.items.invariant _
     (sym c.sees.ensures ∙ c.items-test.true) (c.in_err-item.ensures m) in
     first_of (search rules, grind (arith, common_steps))
@@ -43,7 +41,7 @@ more-returns t c =
 pub parts-returns : goal.parts-returns
 parts-returns t c =
     let one : c.push.new.self ≡ c.args.first ∷ [] =
-        c.in_ok-push.ensures.ok ∙ ap (λ f. f ++ (c.args.first ∷ [])) c.new-found.ensures in
+    c.in_ok-push.ensures.ok ∙ ap (λ f. f ++ (c.args.first ∷ [])) c.new-found.ensures in
     parts_given (spec.fixed c.args.word) (descent.unit_inside c.args.language c.args.left 1)
     c.args.first c.in_ok-second.second c.args.reader.now c.expect.new.self c.unit_inside.new.reader
     c.push-2.new.self c.more.result c.more.new.reader c.in_ok-expect.ensures c.in_ok-second.ensures

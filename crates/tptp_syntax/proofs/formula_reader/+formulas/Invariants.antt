@@ -1,6 +1,4 @@
 use Rattle.std.proofs.Common.{◌+◌, ◌*◌, length}
-use Rattle.std.specs.Prelude.{codes}
-use Rattle.tptp_words.specs.Words.{mark}
 use Rattle.tptp_phrases.specs.Readers.{takes, many_at, behind, seen}
 use Rattle.tptp_phrases.proofs.Turns.{Turning}
 use Rattle.tptp_syntax.specs.Ahead as spec

@@ -1,12 +1,7 @@
-use Rattle.std.proofs.Common.{rules, arith, ◌≢◌, ◌≡◌, ◌++◌, [], ◌∷◌, Err, sym, ◌∙◌, ap, subst, length-append}
-use Rattle.std.specs.Prelude.{codes}
+use Rattle.std.proofs.Common.{rules, arith, ◌≢◌, ◌≡◌, ◌++◌, [], ◌∷◌, Err, sym, ◌∙◌, ap, length-append}
 use Rattle.std.proofs.lemmas.Grind.{common_steps}
-use Rattle.tptp_words.specs.Words.{mark}
-use Rattle.tptp_phrases.specs.Readers.{many_at, behind, and_then, seq, Outcome}
 use Rattle.tptp_phrases.proofs.Turns.{carried, shorter, one_more, one_fails, no_more}
 use Rattle.tptp_syntax.specs.declared.fault.Fault.TheVariants.{Memory}
-use Rattle.tptp_syntax.specs.declared.types.Bound.{Bound}
-use Rattle.tptp_syntax.specs.Strays.{Stray}
 use Rattle.tptp_syntax.specs.Ahead.{cause}
 use Rattle.tptp_syntax.specs.Descent as descent
 use Rattle.tptp_syntax.proofs.FormulaRules.{bounds_after_commas}
@@ -16,7 +11,7 @@ use Rattle.tptp_syntax.proofs.formula_reader.variables.Goals as goal
 pub variables-init : goal.variables-init
 variables-init c =
     let e : c.push.new.self ≡ c.in_ok-first.first ∷ [] =
-        c.in_ok-push.ensures.ok ∙ ap (λ f. f ++ (c.in_ok-first.first ∷ [])) c.new-found.ensures in
+    c.in_ok-push.ensures.ok ∙ ap (λ f. f ++ (c.in_ok-first.first ∷ [])) c.new-found.ensures in
     record {
       some = rw e (omega arith);
       rest = carried _ (listed_turning (descent.bound_at c.args.language c.args.left) c.args.reader.now
@@ -26,8 +21,8 @@ variables-init c =
 pub returns-in_err-variable-clause-found : goal.returns-in_err-variable-clause-found
 returns-in_err-variable-clause-found c =
     let k : c.in_err-variable.field-0.0 ≢ Memory
-        → descent.listed_at (descent.bound_at c.args.language c.args.left) c.args.reader.now
-        ≡ Err (cause c.in_err-variable.field-0.0, c.next_bound.new.reader) =
+    → descent.listed_at (descent.bound_at c.args.language c.args.left) c.args.reader.now
+    ≡ Err (cause c.in_err-variable.field-0.0, c.next_bound.new.reader) =
     λ m. one_fails (bounds_after_commas c.args.language c.args.left) _ c.variables.found c.variables.reader
     c.variables.invariant.rest _ (sym c.sees.ensures ∙ c.variables-test.true)
     (c.in_err-variable.ensures m) in

@@ -1,4 +1,4 @@
-use Rattle.std.proofs.Common.{◌≡◌, ◌++◌, false, length}
+use Rattle.std.proofs.Common.{◌≡◌, ◌++◌, length}
 use Rattle.tptp_words.specs.Words.{content, unescaped}
 use Rattle.tptp_syntax.proofs.spelled.content.Given as goal
 

@@ -1,11 +1,10 @@
-use Rattle.std.proofs.Common.{rules, arith, ◌≢◌, ◌≡◌, [], ◌∷◌, ◌++◌, Err, sym, ◌∙◌, ap}
+use Rattle.std.proofs.Common.{rules, arith, ◌≢◌, ◌≡◌, Err, sym, ◌∙◌, ap}
 use Rattle.std.specs.Prelude.{codes}
 use Rattle.std.proofs.lemmas.Grind.{common_steps}
 use Rattle.tptp_words.specs.Words.{mark}
-use Rattle.tptp_phrases.specs.Readers.{takes, many_at, behind}
+use Rattle.tptp_phrases.specs.Readers.{many_at, behind}
 use Rattle.tptp_phrases.proofs.Turns.{carried, turning, shorter, one_more, one_fails, no_more}
 use Rattle.tptp_syntax.specs.declared.fault.Fault.TheVariants.{Memory}
-use Rattle.tptp_syntax.specs.Ahead as spec
 use Rattle.tptp_syntax.specs.Ahead.{cause}
 use Rattle.tptp_syntax.specs.Descent as descent
 use Rattle.tptp_syntax.proofs.TermRules.{terms_after_commas, no_term_inside, some_term_inside}
@@ -17,8 +16,8 @@ more-items-init t c = turning _ _ c.args.found c.args.reader.now
 pub more-returns-in_err-item : goal.more-returns-in_err-item
 more-returns-in_err-item t c =
     let k : c.in_err-item.field-0.0 ≢ Memory → many_at (descent.sees (codes ","))
-        (behind (mark (codes ",")) (descent.term_inside c.args.left 1)) c.args.found c.args.reader.now
-        ≡ Err (cause c.in_err-item.field-0.0, c.next.new.reader) =
+    (behind (mark (codes ",")) (descent.term_inside c.args.left 1)) c.args.found c.args.reader.now
+    ≡ Err (cause c.in_err-item.field-0.0, c.next.new.reader) =
     λ m. one_fails (terms_after_commas c.args.left) _ c.items.found c.items.reader c.items.invariant _
     (sym c.sees.ensures ∙ c.items-test.true) (c.in_err-item.ensures m) in
     first_of (search rules, grind (arith, common_steps))

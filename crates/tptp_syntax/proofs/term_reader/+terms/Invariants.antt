@@ -1,9 +1,8 @@
 use Rattle.std.proofs.Common.{◌+◌, ◌*◌, length}
 use Rattle.std.specs.Prelude.{codes}
 use Rattle.tptp_words.specs.Words.{mark}
-use Rattle.tptp_phrases.specs.Readers.{takes, many_at, behind, seen}
+use Rattle.tptp_phrases.specs.Readers.{many_at, behind, seen}
 use Rattle.tptp_phrases.proofs.Turns.{Turning}
-use Rattle.tptp_syntax.specs.Ahead as spec
 use Rattle.tptp_syntax.specs.Descent as descent
 use Rattle.tptp_syntax.proofs.term_reader.+terms.Given as goal
 

@@ -20,9 +20,9 @@ more-items-init t c = turning _ _ c.args.found c.args.reader.now
 pub more-returns-in_err-item : goal.more-returns-in_err-item
 more-returns-in_err-item t c =
     let k : c.in_err-item.field-0.0 ≢ Memory
-        → many_at (descent.sees (codes ","))
-        (behind (mark (codes ",")) (descent.type_inside c.args.left 1)) c.args.found c.args.reader.now
-        ≡ Err (cause c.in_err-item.field-0.0, c.next.new.reader) =
+    → many_at (descent.sees (codes ","))
+    (behind (mark (codes ",")) (descent.type_inside c.args.left 1)) c.args.found c.args.reader.now
+    ≡ Err (cause c.in_err-item.field-0.0, c.next.new.reader) =
     λ m. one_fails (types_after_commas c.args.left) _ c.items.found c.items.reader c.items.invariant _
     (sym c.sees.ensures ∙ c.items-test.true) (c.in_err-item.ensures m) in
     first_of (search rules, grind (arith, common_steps))
@@ -51,10 +51,10 @@ more_parts-items-init t c = turning _ _ c.args.found c.args.reader.now
 pub more_parts-returns-in_err-item : goal.more_parts-returns-in_err-item
 more_parts-returns-in_err-item t c =
     let k : c.in_err-item.field-0.0 ≢ Memory
-        → many_at (descent.sees (codes "*"))
-        (behind (mark (codes "*")) (descent.unit_type_at (descent.type_inside c.args.left 1)))
-        c.args.found c.args.reader.now
-        ≡ Err (cause c.in_err-item.field-0.0, c.next_part.new.reader) =
+    → many_at (descent.sees (codes "*"))
+    (behind (mark (codes "*")) (descent.unit_type_at (descent.type_inside c.args.left 1)))
+    c.args.found c.args.reader.now
+    ≡ Err (cause c.in_err-item.field-0.0, c.next_part.new.reader) =
     λ m. one_fails (parts_after_stars c.args.left) _ c.items.found c.items.reader c.items.invariant _
     (sym c.sees.ensures ∙ c.items-test.true) (c.in_err-item.ensures m) in
     first_of (search rules, grind (arith, common_steps))
@@ -92,7 +92,7 @@ type_inside-returns-else-left-levels t c =
 pub parts-returns : goal.parts-returns
 parts-returns t c =
     let one : c.push.new.self ≡ c.args.first ∷ [] =
-        c.in_ok-push.ensures.ok ∙ ap (λ f. f ++ (c.args.first ∷ [])) c.new-found.ensures in
+    c.in_ok-push.ensures.ok ∙ ap (λ f. f ++ (c.args.first ∷ [])) c.new-found.ensures in
     parts_given (mark (codes "*")) (descent.unit_type_at (descent.type_inside c.args.left 1))
     c.args.first c.in_ok-second.second c.args.reader.now c.expect.new.self c.unit_type.new.reader
     c.push-2.new.self c.more_parts.result c.more_parts.new.reader c.in_ok-expect.ensures
