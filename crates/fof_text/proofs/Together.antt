@@ -13,7 +13,7 @@ use Rattle.tptp_syntax.specs.declared.entry.Entry.TheVariants.{Declaration, Stat
 use Rattle.tptp_syntax.specs.declared.entry.File.{File}
 use Rattle.fof_text.specs.States.{EntryStands, StandFor}
 use Rattle.fof_text.specs.Laws.{StatedProblemsHaveModelsTogether}
-use Rattle.fof_text.proofs.OneFile.{one_file}
+use Rattle.tptp_syntax.proofs.OneAnswer.{one_file}
 use Rattle.fof_text.proofs.Renamed.{renamed, IsStructure-renamed}
 use Rattle.fof_text.proofs.RenamedFormulas.{Same, formulas_same}
 
