@@ -1,0 +1,12 @@
+pub mod Thin
+pub mod ThinReading
+pub mod Variables
+pub mod Individuals
+pub mod Output
+pub mod Refusals
+pub mod Job
+pub mod Note
+pub mod Stop
+pub mod Work
+pub mod Ending
+pub mod Promises

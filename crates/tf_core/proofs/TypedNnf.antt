@@ -24,9 +24,9 @@ module _ (g : Signature) (variables : ℕ) where
   is_nnf-parts [] each context holds = no_parts context
   is_nnf-parts (part ∷ parts) each context holds =
       let both = and_parts (is_nnf g variables part context)
-              (list_all (λ x. is_nnf g variables x context) parts) holds in
+      (list_all (λ x. is_nnf g variables x context) parts) holds in
       more_parts context part parts (each.0 context both.0)
-          (is_nnf-parts parts each.1 context both.1)
+      (is_nnf-parts parts each.1 context both.1)
 
   cases : NnfCases IsNnfFrom
   cases = record {
@@ -34,25 +34,25 @@ module _ (g : Signature) (variables : ℕ) where
     on_false = λ context holds. nnf_false context;
     on_atom = λ positive f types terms context holds.
         let atom = IsAtom-from g variables context f types terms
-                (sym (is_nnf-atom g variables positive f types terms context) ∙ holds) in
+        (sym (is_nnf-atom g variables positive f types terms context) ∙ holds) in
         nnf_atom context positive f atom.0 types terms atom.1;
     on_equation = λ positive ty left right context holds.
         nnf_equation context positive ty left right
-            ((equation_says g variables context ty left right).0
-                (sym (is_nnf-equation g variables positive ty left right context) ∙ holds));
+        ((equation_says g variables context ty left right).0
+        (sym (is_nnf-equation g variables positive ty left right context) ∙ holds));
     on_and = λ parts each context holds.
         nnf_and context parts (is_nnf-parts parts each context
-            (sym (is_nnf-and g variables parts context) ∙ holds));
+        (sym (is_nnf-and g variables parts context) ∙ holds));
     on_or = λ parts each context holds.
         nnf_or context parts (is_nnf-parts parts each context
-            (sym (is_nnf-or g variables parts context) ∙ holds));
+        (sym (is_nnf-or g variables parts context) ∙ holds));
     on_for_all = λ ty body from context holds.
         let both = and_parts (is_type g variables ty) (is_nnf g variables body (ty ∷ context))
-                (sym (is_nnf-for_all g variables ty body context) ∙ holds) in
+        (sym (is_nnf-for_all g variables ty body context) ∙ holds) in
         nnf_for_all context ty body (IsType-from g variables ty both.0) (from (ty ∷ context) both.1);
     on_exists = λ ty body from context holds.
         let both = and_parts (is_type g variables ty) (is_nnf g variables body (ty ∷ context))
-                (sym (is_nnf-exists g variables ty body context) ∙ holds) in
+        (sym (is_nnf-exists g variables ty body context) ∙ holds) in
         nnf_exists context ty body (IsType-from g variables ty both.0) (from (ty ∷ context) both.1);
   }
 
@@ -77,16 +77,16 @@ module _ (g : Signature) (variables : ℕ) where
     is_nnf-from context p (nnf_for_all c ty body formed typed) =
         is_nnf-for_all g variables ty body context
         ∙ and_from (is_type g variables ty) (is_nnf g variables body (ty ∷ context))
-            (is_type-from g variables ty formed) (is_nnf-from (ty ∷ context) body typed)
+        (is_type-from g variables ty formed) (is_nnf-from (ty ∷ context) body typed)
     is_nnf-from context p (nnf_exists c ty body formed typed) =
         is_nnf-exists g variables ty body context
         ∙ and_from (is_type g variables ty) (is_nnf g variables body (ty ∷ context))
-            (is_type-from g variables ty formed) (is_nnf-from (ty ∷ context) body typed)
+        (is_type-from g variables ty formed) (is_nnf-from (ty ∷ context) body typed)
 
     is_nnf-each : (context : List Ty) (parts : List Nnf) → AreNnf g variables context parts →
         IsTrue (list_all (λ part. is_nnf g variables part context) parts)
     is_nnf-each context parts (no_parts c) = refl
     is_nnf-each context parts (more_parts c part others typed rest) =
         and_from (is_nnf g variables part context)
-            (list_all (λ x. is_nnf g variables x context) others)
-            (is_nnf-from context part typed) (is_nnf-each context others rest)
+        (list_all (λ x. is_nnf g variables x context) others)
+        (is_nnf-from context part typed) (is_nnf-each context others rest)

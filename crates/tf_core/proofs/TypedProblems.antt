@@ -16,28 +16,32 @@ pub is_problem-says : (problem : Problem) → IsTrue (is_problem problem) ↔ Is
 is_problem-says problem =
     let g = problem.signature in
     let formulas = list_all-says (λ (stated : Stated). is_formula g stated.type_variables stated.body [])
-            (λ stated. IsFormula g stated.type_variables [] stated.body)
-            (λ stated.
-                (IsFormula-from g stated.type_variables stated.body [],
-                is_formula-from g stated.type_variables [] stated.body))
-            problem.formulas in
-    (λ holds.
-        let both = and_parts (is_signature g) _ holds in
-        record { signature = (is_signature-says g).0 both.0; formulas = formulas.0 both.1 },
-    λ typed.
-        and_from (is_signature g) _ ((is_signature-says g).1 typed.signature) (formulas.1 typed.formulas))
+    (λ stated. IsFormula g stated.type_variables [] stated.body)
+    (λ stated. (
+      IsFormula-from g stated.type_variables stated.body [],
+      is_formula-from g stated.type_variables [] stated.body,
+    ))
+    problem.formulas in (
+      λ holds.
+          let both = and_parts (is_signature g) _ holds in
+          record { signature = (is_signature-says g).0 both.0; formulas = formulas.0 both.1 },
+      λ typed.
+          and_from (is_signature g) _ ((is_signature-says g).1 typed.signature) (formulas.1 typed.formulas),
+    )
 
 pub is_normal-says : (normal : Normal) → IsTrue (is_normal normal) ↔ IsNormal normal
 is_normal-says normal =
     let g = normal.signature in
     let formulas = list_all-says (λ (formula : NormalFormula). is_nnf g formula.type_variables formula.body [])
-            (λ formula. IsNnf g formula.type_variables [] formula.body)
-            (λ formula.
-                (IsNnf-from g formula.type_variables formula.body [],
-                is_nnf-from g formula.type_variables [] formula.body))
-            normal.formulas in
-    (λ holds.
-        let both = and_parts (is_signature g) _ holds in
-        record { signature = (is_signature-says g).0 both.0; formulas = formulas.0 both.1 },
-    λ typed.
-        and_from (is_signature g) _ ((is_signature-says g).1 typed.signature) (formulas.1 typed.formulas))
+    (λ formula. IsNnf g formula.type_variables [] formula.body)
+    (λ formula. (
+      IsNnf-from g formula.type_variables formula.body [],
+      is_nnf-from g formula.type_variables [] formula.body,
+    ))
+    normal.formulas in (
+      λ holds.
+          let both = and_parts (is_signature g) _ holds in
+          record { signature = (is_signature-says g).0 both.0; formulas = formulas.0 both.1 },
+      λ typed.
+          and_from (is_signature g) _ ((is_signature-says g).1 typed.signature) (formulas.1 typed.formulas),
+    )

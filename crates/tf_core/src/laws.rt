@@ -33,5 +33,4 @@ pub fn substitution_keeps_truth()
 /// The tests of typing say what the typing relations say.
 pub fn typing_is_decided()
     ensures { TypingIsDecided }
-{
-}
+{}

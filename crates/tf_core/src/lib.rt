@@ -15,7 +15,8 @@ mod typing;
 pub use formula::{Formula, copy_formulas, same_formulas};
 pub use laws::{
     entries_stand_in_blocks, existential_is_true_of_some, instances_have_values,
-    shifted_terms_have_values, substitution_keeps_truth, typing_is_decided, universal_is_true_of_each,
+    shifted_terms_have_values, substitution_keeps_truth, typing_is_decided,
+    universal_is_true_of_each,
 };
 pub use nnf::{Nnf, copy_parts, same_parts};
 pub use normal::{Normal, NormalFormula, copy_normal_formulas, same_normal_formulas};

@@ -1,0 +1,11 @@
+pub mod Uses
+pub mod ThinNames
+pub mod ThinTerms
+pub mod ThinBinders
+pub mod ThinSound
+pub mod ThinNamed
+pub mod IndividualsTruth
+pub mod IndividualsModels
+pub mod Exclusive
+pub mod Readings
+pub mod Headline

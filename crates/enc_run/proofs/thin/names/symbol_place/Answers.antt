@@ -1,0 +1,15 @@
+use Rattle.std.proofs.Common.{◌∙◌, sym, ap}
+use Rattle.std.specs.Str.{bytes_eq}
+use Rattle.fof_models.specs.declared.problem.FofSymbol.{FofSymbol}
+use Rattle.enc_run.proofs.ThinNames.{found_here, not_here, nowhere}
+use Rattle.enc_run.proofs.thin.names.symbol_place.Goals as goal
+
+pub returns-then-eq-clause-exact : goal.returns-then-eq-clause-exact
+returns-then-eq-clause-exact c =
+    found_here (λ (item : FofSymbol). item.wanted) c.args.symbols.now c.args.name.now c.loop-place.place c.index-symbols-place.result
+    c.loop-place-test.true c.index-symbols-place.is (ap (λ (item : FofSymbol). bytes_eq c.args.name.now item.wanted) c.index-symbols-place.is ∙ ap (bytes_eq c.args.name.now) (sym c.as_slice.ensures) ∙ sym c.if-eq.ensures) c.loop-place.invariant
+
+pub loop-place-preserved : goal.loop-place-preserved
+loop-place-preserved c =
+    not_here (λ (item : FofSymbol). item.wanted) c.args.symbols.now c.args.name.now c.loop-place.place c.index-symbols-place.result
+    c.loop-place-test.true c.index-symbols-place.is (ap (λ (item : FofSymbol). bytes_eq c.args.name.now item.wanted) c.index-symbols-place.is ∙ ap (bytes_eq c.args.name.now) (sym c.as_slice.ensures) ∙ sym c.if-eq.ensures) c.loop-place.invariant

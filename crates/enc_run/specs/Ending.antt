@@ -1,0 +1,72 @@
+-- How a run ends, and what each way to end rests on.
+use Rattle.std.specs.Prelude.{◌≡◌, ◌≤◌, ◌⊎◌, ℕ, true, false, List, Option, Some, None, Result, Ok, Err}
+use Rattle.std.specs.Io.KnownBytes.{Appends, Keeps}
+use Rattle.enc_base.specs.Counts.{one_more}
+use Rattle.enc_base.specs.Library.{IsHeld}
+use Rattle.enc_base.specs.Sink.{AppendsPrefix}
+use Rattle.enc_run.specs.Refusals.{IsRefusedBy, IsUnbuilt, IsEncodedAs}
+use Rattle.enc_run.specs.Stop.{status_of}
+use Rattle.enc_run.specs.Note.{Notes}
+use Rattle.enc_run.specs.Work.{Change, Work, Rises, OwnRises, HasText}
+use Rattle.enc_run.specs.declared.job.Job.{Job}
+use Rattle.enc_run.specs.declared.stop.Stop.{Stop}
+use Rattle.enc_run.specs.declared.stop.Stop.TheVariants.{NotBuilt, Unread, Refused, Unwritten, Memory}
+
+-- the words give a job, and this holds of a text that may be its problem's
+abbrev pub OfText : Work → (List ℕ → Type 0) → Type 0
+OfText w Holding =
+    (job : Job) × (w.job ≡ Some job) × ((text : List ℕ) × HasText w job text × Holding text)
+
+-- ---- how a run ended
+
+-- what a stop rests on; want of memory may come anywhere
+abbrev pub CauseOf : Work → Stop → Type 0
+CauseOf w NotBuilt = (w.job ≡ None) ⊎ OfText w IsUnbuilt
+CauseOf w (Unread name) =
+    (job : Job) × (w.job ≡ Some job) × (job.problem ≡ name) × Rises w.faults
+    × (IsHeld w.held name → OwnRises w name)
+CauseOf w (Refused reason) = OfText w (IsRefusedBy reason)
+CauseOf w Unwritten =
+    ((output : List ℕ) × OfText w (IsEncodedAs output) × AppendsPrefix w.out.before w.out.after output)
+    × Rises w.out_faults
+CauseOf w Memory = Unit {0}
+
+-- a stop but that of a failed write leaves the output as it was
+abbrev pub LeavesOut : Work → Stop → Type 0
+LeavesOut w Unwritten = Unit {0}
+LeavesOut w _ = Keeps w.out.before w.out.after
+
+-- the run wrote a whole output, or was stopped
+abbrev pub EndsBy : Work → Result (Unit {0}) Stop → Type 0
+EndsBy w (Ok done) =
+    (output : List ℕ) × OfText w (IsEncodedAs output) × Appends w.out.before w.out.after output
+EndsBy w (Err stop) = CauseOf w stop × LeavesOut w stop
+
+-- at most one read, and none where the words give no job
+pub record ReadsOnce (w : Work) : Type 0 where
+  pub most : w.reads.after ≤ one_more w.reads.before
+  pub none : w.job ≡ None → w.reads.after ≡ w.reads.before
+
+abbrev pub status_at : Result (Unit {0}) Stop → ℕ
+status_at (Ok done) = 0
+status_at (Err stop) = status_of stop
+
+-- what a run leaves in the notes: nothing, or the stop's note unless a write of it failed
+abbrev pub Noted : Result (Unit {0}) Stop → Change (Option (List ℕ)) → Change ℕ → Type 0
+Noted (Ok done) notes faults = (notes.after ≡ notes.before) × (faults.after ≡ faults.before)
+Noted (Err stop) notes faults = (Rises faults → ⊥) → Notes stop notes.before notes.after
+
+-- how a run ended, with the status and the notes that belong to it
+pub record Ended (w : Work) (notes : Change (Option (List ℕ))) (notes_faults : Change ℕ) (status : ℕ)
+    : Type 0 where
+  pub end : Result (Unit {0}) Stop
+  pub status_is : status_at end ≡ status
+  pub ends : EndsBy w end
+  pub noted : Noted end notes notes_faults
+  pub reads : ReadsOnce w
+
+-- how a read of the named file stops a run, where these counts rose
+abbrev pub IsUnread : List ℕ → Type 0 → Type 0 → Stop → Type 0
+IsUnread name FaultsRose OwnRose (Unread unread) = (unread ≡ name) × FaultsRose × OwnRose
+IsUnread name FaultsRose OwnRose Memory = Unit {0}
+IsUnread name FaultsRose OwnRose _ = ⊥

@@ -1,0 +1,144 @@
+//! The line that a stopped run leaves in the notes.
+
+ghost use Rattle.std.specs.Prelude.{◌≡◌, ◌≤◌, ◌++◌, ℕ, List, OnOk, OnErr};
+ghost use Rattle.std.specs.Io.KnownBytes.{Appends};
+ghost use Rattle.enc_base.specs.Counts.{Rose};
+ghost use Rattle.enc_run.specs.Note.{Notes, line, not_built, cannot_read, cannot_write, no_memory, program_word};
+ghost use Rattle.enc_run.specs.Refusals.{number_of};
+
+use crate::Stop;
+use enc_base::{Failed, Sink};
+use std::alloc::Global;
+use tptp_syntax::ReadError;
+
+// Writes two pieces.
+fn write_both<E: Sink>(first: &[u8], second: &[u8], notes: &mut E) -> Result<(), Failed>
+    ensures ok { OnOk result (Appends (E.bytes notes.old) (E.bytes notes.new) (first.now ++ second.now)) }
+    ensures failed { OnErr result (Rose (E.faults notes.old) (E.faults notes.new)) }
+    ensures later { E.faults notes.old ≤ E.faults notes.new }
+{
+    notes.write(first)?;
+    notes.write(second)
+}
+
+#[tactic(auto, unfolding(crate::specs::Note::program_word))]
+fn write_program_word<E: Sink>(notes: &mut E) -> Result<(), Failed>
+    ensures ok { OnOk result (Appends (E.bytes notes.old) (E.bytes notes.new) program_word) }
+    ensures failed { OnErr result (Rose (E.faults notes.old) (E.faults notes.new)) }
+    ensures later { E.faults notes.old ≤ E.faults notes.new }
+{
+    notes.write(b"tfenc: ")
+}
+
+fn write_line<E: Sink>(text: &[u8], notes: &mut E) -> Result<(), Failed>
+    ensures ok { OnOk result (Appends (E.bytes notes.old) (E.bytes notes.new) (line text.now)) }
+    ensures failed { OnErr result (Rose (E.faults notes.old) (E.faults notes.new)) }
+    ensures later { E.faults notes.old ≤ E.faults notes.new }
+{
+    write_program_word(notes)?;
+    write_both(text, b"\n", notes)
+}
+
+#[tactic(auto, unfolding(crate::specs::Note::cannot_read))]
+fn write_cannot_read<E: Sink>(notes: &mut E) -> Result<(), Failed>
+    ensures ok { OnOk result (Appends (E.bytes notes.old) (E.bytes notes.new) cannot_read) }
+    ensures failed { OnErr result (Rose (E.faults notes.old) (E.faults notes.new)) }
+    ensures later { E.faults notes.old ≤ E.faults notes.new }
+{
+    notes.write(b"cannot read ")
+}
+
+// Writes `cannot read` and the name.
+fn write_unread<E: Sink>(name: &[u8], notes: &mut E) -> Result<(), Failed>
+    ensures ok { OnOk result (Appends (E.bytes notes.old) (E.bytes notes.new) (line (cannot_read ++ name.now))) }
+    ensures failed { OnErr result (Rose (E.faults notes.old) (E.faults notes.new)) }
+    ensures later { E.faults notes.old ≤ E.faults notes.new }
+{
+    write_program_word(notes)?;
+    write_cannot_read(notes)?;
+    write_both(name, b"\n", notes)
+}
+
+#[tactic(auto, unfolding(crate::specs::Refusals::number_of))]
+fn number_of(reason: &ReadError) -> &'static [u8]
+    ensures { result.now ≡ number_of reason.now }
+{
+    match reason {
+        ReadError::BadByte { .. } => b"1 ",
+        ReadError::Unclosed { .. } => b"2 ",
+        ReadError::Syntax { .. } => b"3 ",
+        ReadError::TooDeep { .. } => b"4 ",
+        ReadError::Language { .. } => b"5 ",
+        ReadError::Role { .. } => b"6 ",
+        ReadError::Number { .. } => b"7 ",
+        ReadError::DistinctObject { .. } => b"8 ",
+        ReadError::Include { .. } => b"9 ",
+        ReadError::TooLong { .. } => b"10 ",
+        ReadError::Memory => b"",
+    }
+}
+
+// The text of a refusal, or nothing where there is no memory for it.
+fn message(alloc: Global, reason: &ReadError) -> String {
+    match reason.to_string(alloc) {
+        Ok(text) => text,
+        Err(_) => String::new(alloc),
+    }
+}
+
+fn write_refusal<E: Sink>(alloc: Global, reason: &ReadError, notes: &mut E) -> Result<(), Failed>
+    ensures ok { OnOk result ((rest : List ℕ)
+        × Appends (E.bytes notes.old) (E.bytes notes.new) (program_word ++ (number_of reason.now ++ rest))) }
+    ensures failed { OnErr result (Rose (E.faults notes.old) (E.faults notes.new)) }
+    ensures later { E.faults notes.old ≤ E.faults notes.new }
+{
+    let text = message(alloc, reason);
+    write_program_word(notes)?;
+    notes.write(number_of(reason))?;
+    match write_both(text.as_bytes(), b"\n", notes) {
+        Ok(()) => Ok(()),
+        Err(_) => Err(Failed),
+    }
+}
+
+#[tactic(auto, unfolding(crate::specs::Note::not_built))]
+fn not_built() -> &'static [u8]
+    ensures { result.now ≡ not_built }
+{
+    b"not built"
+}
+
+#[tactic(auto, unfolding(crate::specs::Note::cannot_write))]
+fn cannot_write() -> &'static [u8]
+    ensures { result.now ≡ cannot_write }
+{
+    b"cannot write"
+}
+
+#[tactic(auto, unfolding(crate::specs::Note::no_memory))]
+fn no_memory() -> &'static [u8]
+    ensures { result.now ≡ no_memory }
+{
+    b"no memory"
+}
+
+fn try_note<E: Sink>(alloc: Global, stop: &Stop, notes: &mut E) -> Result<(), Failed>
+    ensures ok { OnOk result (Notes stop.now (E.bytes notes.old) (E.bytes notes.new)) }
+    ensures failed { OnErr result (Rose (E.faults notes.old) (E.faults notes.new)) }
+{
+    match stop {
+        Stop::NotBuilt => write_line(not_built(), notes),
+        Stop::Unread(name) => write_unread(name.as_str().as_bytes(), notes),
+        Stop::Refused(reason) => write_refusal(alloc, reason, notes),
+        Stop::Unwritten => write_line(cannot_write(), notes),
+        Stop::Memory => write_line(no_memory(), notes),
+    }
+}
+
+/// Writes the note of a stop. A write that fails is passed over, since no answer of the notes
+/// changes the status.
+pub fn write_note<E: Sink>(alloc: Global, stop: &Stop, notes: &mut E)
+    ensures { (Rose (E.faults notes.old) (E.faults notes.new) → ⊥) → Notes stop.now (E.bytes notes.old) (E.bytes notes.new) }
+{
+    let _ = try_note(alloc, stop, notes);
+}

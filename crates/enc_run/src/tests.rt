@@ -1,0 +1,125 @@
+use super::*;
+use enc_base::{List, MemoryLibrary, MemorySink, Name, StoredFile};
+use std::alloc::Global;
+use std::test::Fail;
+
+// What a run over one file in memory gives.
+struct Seen {
+    status: u8,
+    out: Vec<u8>,
+    notes: Vec<u8>,
+}
+
+fn library(alloc: Global, text: &str, failing: &[u64]) -> Result<MemoryLibrary, Fail> {
+    let mut files = List::new(alloc);
+    files.push(StoredFile {
+        name: Name::from_slice(alloc, b"p")?,
+        bytes: List::from_vec(text.as_bytes().to_vec(alloc)?),
+        faults: 0,
+    })?;
+    Ok(MemoryLibrary::new(files, List::from_vec(failing.to_vec(alloc)?)))
+}
+
+fn seen(alloc: Global, text: &str, line: &str, most: usize, failing: &[u64]) -> Result<Seen, Fail> {
+    let mut words = Vec::new(alloc);
+    for word in line.split(' ') {
+        words.push(String::from_str(alloc, word)?)?;
+    }
+    let mut files = library(alloc, text, failing)?;
+    let mut out = MemorySink::new(alloc, most, List::new(alloc))?;
+    let mut notes = MemorySink::new(alloc, 1000, List::new(alloc))?;
+    let status = run(alloc, words.as_slice(), &mut files, &mut out, &mut notes);
+    Ok(Seen {
+        status,
+        out: out.written().to_vec(alloc)?,
+        notes: notes.written().to_vec(alloc)?,
+    })
+}
+
+const ENCODE: &str = "encode p --scheme erase";
+
+#[test]
+fn plain_problems_are_written(rt: HostRuntime) -> Result<(), Fail> {
+    for (text, formulas) in [
+        ("", ""),
+        (
+            "fof(one,axiom,![X,Y]: X = Y).",
+            "fof(one,axiom,![X0]: ![X1]: X0 = X1).\n",
+        ),
+        ("fof(a,axiom,~ (p & q)).", "fof(a,axiom,(~p | ~q)).\n"),
+        (
+            "fof(g,conjecture,p => q).",
+            "fof(g,negated_conjecture,(p & ~q)).\n",
+        ),
+        (
+            "fof(x,axiom,a <~> b).",
+            "fof(x,axiom,((a | b) & (~a | ~b))).\n",
+        ),
+        (
+            "fof(q,axiom,p('abc') & p(abc) & 'A b').",
+            "fof(q,axiom,(p(abc) & p(abc) & 'A b')).\n",
+        ),
+        ("tff(c,type,c: $i). tff(d,type,c: $i).", ""),
+    ] {
+        let seen = seen(rt.alloc(), text, ENCODE, 1000, &[])?;
+        assert_eq!(rt; seen.status, 0, "at {text}");
+        let (first, rest) = seen.out.as_slice().split_at(23);
+        assert_eq!(rt; first, b"% tfenc erase complete\n".as_slice());
+        assert_eq!(rt; rest, formulas.as_bytes(), "at {text}");
+        assert!(rt; seen.notes.is_empty());
+    }
+    Ok(())
+}
+
+#[test]
+fn what_stops_a_run_is_noted(rt: HostRuntime) -> Result<(), Fail> {
+    for (text, line, status, note) in [
+        (
+            "fof(x,axiom,a & b | c).",
+            ENCODE,
+            1,
+            "tfenc: 3 syntax at 18\n",
+        ),
+        ("fof(x,axiom,p#q).", ENCODE, 1, "tfenc: 1 bad byte at 13\n"),
+        ("cnf(x,axiom,p).", ENCODE, 1, "tfenc: 5 language at 0\n"),
+        ("fof(x,unknown,p).", ENCODE, 1, "tfenc: 6 role at 6\n"),
+        (
+            "fof(x,axiom,p(X)).",
+            ENCODE,
+            1,
+            "tfenc: 14 free variable X in entry 0\n",
+        ),
+        (
+            "fof(x,axiom,p(c) & p(c,c)).",
+            ENCODE,
+            1,
+            "tfenc: 15 arity of p in entry 0, expected 1, found 2\n",
+        ),
+        ("tff(a,type,a: $tType).", ENCODE, 9, "tfenc: not built\n"),
+        ("", "encode q --scheme erase", 6, "tfenc: cannot read q\n"),
+        ("", "encode p", 9, "tfenc: not built\n"),
+        ("", "paint p --scheme erase", 9, "tfenc: not built\n"),
+    ] {
+        let seen = seen(rt.alloc(), text, line, 1000, &[])?;
+        assert_eq!(rt; seen.status, status, "at {text}");
+        assert_eq!(rt; seen.notes.as_slice(), note.as_bytes(), "at {text}");
+        assert!(rt; seen.out.is_empty());
+    }
+    Ok(())
+}
+
+#[test]
+fn failing_files_and_outputs_are_told(rt: HostRuntime) -> Result<(), Fail> {
+    let text = "fof(one,axiom,![X,Y]: X = Y).";
+    let unread = seen(rt.alloc(), text, ENCODE, 1000, &[1])?;
+    assert_eq!(rt; unread.status, 6);
+    assert_eq!(rt;
+        unread.notes.as_slice(),
+        b"tfenc: cannot read p\n".as_slice()
+    );
+    let full = seen(rt.alloc(), text, ENCODE, 10, &[])?;
+    assert_eq!(rt; full.status, 7);
+    assert_eq!(rt; full.out.as_slice(), b"% tfenc er".as_slice());
+    assert_eq!(rt; full.notes.as_slice(), b"tfenc: cannot write\n".as_slice());
+    Ok(())
+}
