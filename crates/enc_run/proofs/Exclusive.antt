@@ -1,5 +1,5 @@
 -- A text leads to one thing alone: it is refused for one reason, or spells one file.
-use Rattle.std.proofs.Common.{◌≡◌, ◌∙◌, ℕ, true, false, List, Result, Ok, Err, sym, ap, subst}
+use Rattle.std.proofs.Common.{◌≡◌, ℕ, true, List, Result, Ok, Err, sym, subst}
 use Rattle.tptp_syntax.specs.declared.entry.File.{File}
 use Rattle.tptp_syntax.specs.declared.error.ReadError.{ReadError}
 use Rattle.tptp_syntax.specs.Files.{Verdict}

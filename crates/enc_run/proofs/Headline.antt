@@ -22,7 +22,7 @@ use Rattle.enc_run.specs.Individuals.{typed_problem}
 use Rattle.enc_run.specs.Thin.{is_thin, is_thin_file, problem_of, most_thin_bytes}
 use Rattle.enc_run.specs.Output.{first_line, output_of}
 use Rattle.enc_run.specs.Refusals.{IsBuilt, IsEncodedAs}
-use Rattle.enc_run.specs.Work.{Change, Work, IsTold}
+use Rattle.enc_run.specs.Work.{Change, Work}
 use Rattle.enc_run.specs.Ending.{Ended}
 use Rattle.enc_run.specs.Promises.{IsEncoded, Headline}
 use Rattle.enc_run.proofs.IndividualsModels.{typed_models_are_untyped_models}

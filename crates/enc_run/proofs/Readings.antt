@@ -1,5 +1,5 @@
 -- What a run promises follows from how it ended.
-use Rattle.std.proofs.Common.{◌≡◌, ◌⊎◌, ◌++◌, inl, inr, ℕ, List, [], Option, Some, None, Result, Ok, Err, refl, sym, ap, subst, ◌∙◌, is_some, arith}
+use Rattle.std.proofs.Common.{◌≡◌, ◌⊎◌, ◌++◌, inl, inr, ℕ, List, Option, Some, None, Result, Ok, Err, refl, sym, ap, subst, ◌∙◌, is_some, arith}
 use Rattle.std.specs.Io.KnownBytes.{Appends, Keeps}
 use Rattle.std.proofs.lemmas.Option.{same_Some}
 use Rattle.enc_base.specs.Library.{Files, Holds, IsHeld}
@@ -10,7 +10,7 @@ use Rattle.tptp_syntax.specs.declared.error.ReadError.TheVariants as reading
 use Rattle.tptp_syntax.specs.Files.{Verdict}
 use Rattle.enc_run.specs.Refusals.{IsRefusedBy, IsUnbuilt, IsEncodedAs, status_of, number_of}
 use Rattle.enc_run.specs.Note.{program_word, line, not_built, cannot_read, cannot_write, no_memory}
-use Rattle.enc_run.specs.Work.{Change, Work, Rises, OwnRises, IsTold, HasText}
+use Rattle.enc_run.specs.Work.{Change, Work, Rises, OwnRises, IsTold}
 use Rattle.enc_run.specs.Ending.{OfText, EndsBy, status_at, Noted, Ended}
 use Rattle.enc_run.specs.Promises.{IsOrMemory, Complete, NotBuiltExactly, RefusedExactly, UnreadOnly, UnwrittenOnly, IsStatus, OutHolds, NotesHold, Adds}
 use Rattle.enc_run.specs.declared.job.Job.{Job}

@@ -1,8 +1,8 @@
 -- Lists of bound variables of the form that is built, and quantified formulas.
-use Rattle.std.proofs.Common.{◌≡◌, ◌<◌, ◌≤◌, ◌+◌, ◌++◌, ◌∙◌, ◌∷◌, ◌&&◌, ℕ, zero, suc, Bool, true, false, List, [], length, map, drop, get_or, Option, Some, None, refl, sym, ap, subst, arith, if◌then◌else◌}
+use Rattle.std.proofs.Common.{◌≡◌, ◌<◌, ◌+◌, ◌∙◌, ◌∷◌, ◌&&◌, ℕ, suc, Bool, true, false, List, [], length, map, drop, get_or, Option, Some, None, refl, sym, ap, subst, arith, if◌then◌else◌}
 use Rattle.std.specs.Bool.{◌==◌}
 use Rattle.std.specs.Prelude.{ltb, option_map, slice_get}
-use Rattle.std.proofs.lemmas.List.{at_drop_more, drop_all}
+use Rattle.std.proofs.lemmas.List.{at_drop_more}
 use Rattle.std.proofs.lemmas.Bool.{ne_eqb}
 use Rattle.std.proofs.lemmas.Option.{slice_get_past}
 use Rattle.tptp_syntax.specs.declared.types.Bound.{Bound}
@@ -25,7 +25,7 @@ use Rattle.fof_text.specs.Meaning.{formula_meant, bind, nothing, is_untyped, ter
 use Rattle.fof_text.proofs.Meanings as meant
 use Rattle.enc_run.specs.Thin.{bound_of_counts, names_of, is_thin_formula, is_thin_step}
 use Rattle.enc_run.specs.ThinReading.{only_if, has_no_type, may_bind, can_bind, bound_after, wrapped, thin_formula, thin_atom, thin_equation, terms_meant}
-use Rattle.enc_run.proofs.ThinTerms.{only_if-true, only_if-false, same-length}
+use Rattle.enc_run.proofs.ThinTerms.{only_if-false, same-length}
 use Rattle.enc_run.proofs.Uses.{IsOther}
 
 -- ---- the loop over the variables

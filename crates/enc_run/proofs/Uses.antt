@@ -2,7 +2,7 @@
 use Rattle.std.proofs.Common.{◌≡◌, ℕ, true, false, List, [], ◌∷◌, ◌++◌, map, length, refl, sym, ap, ◌∙◌}
 use Rattle.std.proofs.Common.{subst, if◌then◌else◌, suc, ◌+◌, ◌<◌, ◌≤◌, drop, get_or}
 use Rattle.std.proofs.lemmas.List.{at_drop_more, drop_all}
-use Rattle.tptp_syntax.specs.declared.term.RawTerm.{RawTerm, roll-RawTerm}
+use Rattle.tptp_syntax.specs.declared.term.RawTerm.{RawTerm}
 use Rattle.tptp_syntax.specs.declared.term.RawTerm.TheVariants as t
 use Rattle.tptp_syntax.specs.declared.term.RawTerm.TheOpen as O
 use Rattle.tptp_syntax.specs.declared.term.RawTerm.TheFolds.{fold-roll-RawTerm}

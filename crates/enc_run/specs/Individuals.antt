@@ -1,5 +1,5 @@
 -- A first-order problem as a typed one: all its symbols are over the type `$i`.
-use Rattle.std.specs.Prelude.{ℕ, Bool, true, false, List, [], ◌∷◌, map, replicate, codes, Option, Some, None}
+use Rattle.std.specs.Prelude.{Bool, true, false, List, [], ◌∷◌, map, replicate, codes, Option, Some, None}
 use Rattle.tf_core.specs.declared.ty.Ty.{Ty}
 use Rattle.tf_core.specs.declared.ty.Ty.TheVariants as ty
 use Rattle.tf_core.specs.declared.term.Term.{Term}

@@ -1,5 +1,5 @@
 -- The lines that are written to the notes.
-use Rattle.std.specs.Prelude.{◌≡◌, ◌∷◌, ◌++◌, ℕ, List, [], codes, Option}
+use Rattle.std.specs.Prelude.{◌≡◌, ◌++◌, ℕ, List, codes, Option}
 use Rattle.std.specs.Io.KnownBytes.{Appends}
 use Rattle.enc_run.specs.Refusals.{number_of}
 use Rattle.enc_run.specs.declared.stop.Stop.{Stop}

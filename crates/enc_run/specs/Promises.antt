@@ -1,7 +1,6 @@
 -- What a run promises, one promise a definition. A text is told where the library tells its files.
-use Rattle.std.specs.Prelude.{◌≡◌, ◌≤◌, ◌⊎◌, ◌↔◌, ◌++◌, ℕ, true, List, Option, Some, None, Ok}
+use Rattle.std.specs.Prelude.{◌≡◌, ◌⊎◌, ◌↔◌, ◌++◌, ℕ, List, Option, Some, None}
 use Rattle.std.specs.Io.KnownBytes.{Appends, Keeps}
-use Rattle.enc_base.specs.Counts.{one_more}
 use Rattle.enc_base.specs.Library.{IsHeld}
 use Rattle.enc_base.specs.Sink.{AppendsPrefix}
 use Rattle.tptp_syntax.specs.declared.entry.File.{File}
@@ -13,7 +12,7 @@ use Rattle.enc_run.specs.Individuals.{typed_problem}
 use Rattle.enc_run.specs.Output.{output_of}
 use Rattle.enc_run.specs.Refusals.{IsRefusedBy, IsUnbuilt, IsEncodedAs, status_of, number_of}
 use Rattle.enc_run.specs.Note.{program_word, line, not_built, cannot_read, cannot_write, no_memory}
-use Rattle.enc_run.specs.Work.{Change, Work, Rises, OwnRises, IsTold, HasText}
+use Rattle.enc_run.specs.Work.{Change, Work, Rises, OwnRises, IsTold}
 use Rattle.enc_run.specs.Ending.{OfText}
 use Rattle.enc_run.specs.declared.job.Job.{Job}
 use Rattle.tptp_syntax.specs.declared.error.ReadError.{ReadError}

@@ -11,7 +11,7 @@ use Rattle.fof_text.specs.States.{AreNamed}
 use Rattle.enc_run.specs.Thin.{is_thin, problem_of}
 use Rattle.enc_run.specs.Output.{output_of}
 use Rattle.enc_run.specs.declared.stop.Stop.{Stop}
-use Rattle.enc_run.specs.declared.stop.Stop.TheVariants.{NotBuilt, Unread, Refused, Unwritten, Memory}
+use Rattle.enc_run.specs.declared.stop.Stop.TheVariants.{NotBuilt, Refused, Memory}
 
 -- a limit that is passed has status 5, any other refusal 1
 abbrev pub status_of : ReadError → ℕ

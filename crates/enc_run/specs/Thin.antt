@@ -1,6 +1,6 @@
 -- The form of input that is built so far, and the problem that a file of this form states: each
 -- entry is a hypothesis whose formula is a list of universal quantifiers round one atom or equation.
-use Rattle.std.specs.Prelude.{ℕ, ◌+◌, ◌^◌, Bool, true, false, ◌&&◌, ◌||◌, if◌then◌else◌, List, [], ◌∷◌, ◌++◌, map, length, nat_le, ltb, min, slice_get}
+use Rattle.std.specs.Prelude.{ℕ, ◌+◌, ◌^◌, Bool, true, false, ◌&&◌, if◌then◌else◌, List, [], ◌∷◌, ◌++◌, map, length, nat_le, ltb, min, slice_get}
 use Rattle.std.specs.List.{list_all, list_any}
 use Rattle.std.specs.Str.{bytes_eq}
 use Rattle.tptp_syntax.specs.declared.term.RawTerm.{RawTerm}

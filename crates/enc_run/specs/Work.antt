@@ -1,7 +1,7 @@
 -- A run as its caller sees it.
 use Rattle.std.specs.Prelude.{◌≡◌, ℕ, List, Option, Some}
 use Rattle.enc_base.specs.Counts.{Rose}
-use Rattle.enc_base.specs.Library.{Files, Holds, IsHeld}
+use Rattle.enc_base.specs.Library.{Files, Holds}
 use Rattle.enc_run.specs.declared.job.Job.{Job}
 
 -- a value before a call and after it

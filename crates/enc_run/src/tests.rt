@@ -4,6 +4,7 @@ use std::alloc::Global;
 use std::test::Fail;
 
 // What a run over one file in memory gives.
+#[derive(Drop)]
 struct Seen {
     status: u8,
     out: Vec<u8>,
@@ -20,7 +21,7 @@ fn library(alloc: Global, text: &str, failing: &[u64]) -> Result<MemoryLibrary, 
     Ok(MemoryLibrary::new(files, List::from_vec(failing.to_vec(alloc)?)))
 }
 
-fn seen(alloc: Global, text: &str, line: &str, most: usize, failing: &[u64]) -> Result<Seen, Fail> {
+fn see(alloc: Global, text: &str, line: &str, most: usize, failing: &[u64]) -> Result<Seen, Fail> {
     let mut words = Vec::new(alloc);
     for word in line.split(' ') {
         words.push(String::from_str(alloc, word)?)?;
@@ -39,34 +40,47 @@ fn seen(alloc: Global, text: &str, line: &str, most: usize, failing: &[u64]) -> 
 const ENCODE: &str = "encode p --scheme erase";
 
 #[test]
-fn plain_problems_are_written(rt: HostRuntime) -> Result<(), Fail> {
-    for (text, formulas) in [
-        ("", ""),
+fn problems_of_the_form_are_written(rt: HostRuntime) -> Result<(), Fail> {
+    for (text, output) in [
+        ("", "% tfenc erase complete\n"),
         (
             "fof(one,axiom,![X,Y]: X = Y).",
-            "fof(one,axiom,![X0]: ![X1]: X0 = X1).\n",
-        ),
-        ("fof(a,axiom,~ (p & q)).", "fof(a,axiom,(~p | ~q)).\n"),
-        (
-            "fof(g,conjecture,p => q).",
-            "fof(g,negated_conjecture,(p & ~q)).\n",
+            "% tfenc erase complete\nfof(one,axiom,![X0]: ![X1]: X0 = X1).\n",
         ),
         (
-            "fof(x,axiom,a <~> b).",
-            "fof(x,axiom,((a | b) & (~a | ~b))).\n",
+            "fof(two,axiom,![X]: ![X]: p(X)). tff(c,lemma,d = e).",
+            "% tfenc erase complete\nfof(two,axiom,![X0]: ![X1]: p(X1)).\nfof(c,axiom,d = e).\n",
         ),
         (
-            "fof(q,axiom,p('abc') & p(abc) & 'A b').",
-            "fof(q,axiom,(p(abc) & p(abc) & 'A b')).\n",
+            "fof('in between',hypothesis,![X]: q(f(X),'abc','A b')).",
+            "% tfenc erase complete\nfof('in between',axiom,![X0]: q(f(X0),abc,'A b')).\n",
         ),
-        ("tff(c,type,c: $i). tff(d,type,c: $i).", ""),
     ] {
-        let seen = seen(rt.alloc(), text, ENCODE, 1000, &[])?;
+        let seen = see(rt.alloc(), text, ENCODE, 1000, &[])?;
         assert_eq!(rt; seen.status, 0, "at {text}");
-        let (first, rest) = seen.out.as_slice().split_at(23);
-        assert_eq!(rt; first, b"% tfenc erase complete\n".as_slice());
-        assert_eq!(rt; rest, formulas.as_bytes(), "at {text}");
+        assert_eq!(rt; seen.out.as_slice(), output.as_bytes(), "at {text}");
         assert!(rt; seen.notes.is_empty());
+    }
+    Ok(())
+}
+
+#[test]
+fn other_problems_are_not_built(rt: HostRuntime) -> Result<(), Fail> {
+    for text in [
+        "fof(x,axiom,p(X)).",
+        "fof(x,axiom,~p).",
+        "fof(x,axiom,a | b).",
+        "fof(x,axiom,?[X]: p(X)).",
+        "fof(x,conjecture,p).",
+        "tff(x,axiom,![X: $i]: p(X)).",
+        "tff(c,type,c: $i).",
+        "fof(x,axiom,p(c)). fof(y,axiom,c).",
+        "fof(x,axiom,p(c)). fof(y,axiom,p(c,c)).",
+    ] {
+        let seen = see(rt.alloc(), text, ENCODE, 1000, &[])?;
+        assert_eq!(rt; seen.status, 9, "at {text}");
+        assert_eq!(rt; seen.notes.as_slice(), b"tfenc: not built\n".as_slice());
+        assert!(rt; seen.out.is_empty());
     }
     Ok(())
 }
@@ -81,27 +95,44 @@ fn what_stops_a_run_is_noted(rt: HostRuntime) -> Result<(), Fail> {
             "tfenc: 3 syntax at 18\n",
         ),
         ("fof(x,axiom,p#q).", ENCODE, 1, "tfenc: 1 bad byte at 13\n"),
+        ("fof(x,axiom,'p).", ENCODE, 1, "tfenc: 2 unclosed at 12\n"),
         ("cnf(x,axiom,p).", ENCODE, 1, "tfenc: 5 language at 0\n"),
         ("fof(x,unknown,p).", ENCODE, 1, "tfenc: 6 role at 6\n"),
-        (
-            "fof(x,axiom,p(X)).",
-            ENCODE,
-            1,
-            "tfenc: 14 free variable X in entry 0\n",
-        ),
-        (
-            "fof(x,axiom,p(c) & p(c,c)).",
-            ENCODE,
-            1,
-            "tfenc: 15 arity of p in entry 0, expected 1, found 2\n",
-        ),
-        ("tff(a,type,a: $tType).", ENCODE, 9, "tfenc: not built\n"),
+        ("fof(x,axiom,p(1)).", ENCODE, 1, "tfenc: 7 number at 14\n"),
+        ("include('a').", ENCODE, 1, "tfenc: 9 include at 0\n"),
         ("", "encode q --scheme erase", 6, "tfenc: cannot read q\n"),
         ("", "encode p", 9, "tfenc: not built\n"),
         ("", "paint p --scheme erase", 9, "tfenc: not built\n"),
     ] {
-        let seen = seen(rt.alloc(), text, line, 1000, &[])?;
+        let seen = see(rt.alloc(), text, line, 1000, &[])?;
         assert_eq!(rt; seen.status, status, "at {text}");
+        assert_eq!(rt; seen.notes.as_slice(), note.as_bytes(), "at {text}");
+        assert!(rt; seen.out.is_empty());
+    }
+    Ok(())
+}
+
+// Each front of a problem is refused at its end, or at the language or the role that it cuts.
+#[test]
+fn cut_problems_are_refused_in_place(rt: HostRuntime) -> Result<(), Fail> {
+    for (text, note) in [
+        ("f", "tfenc: 5 language at 0\n"),
+        ("fo", "tfenc: 5 language at 0\n"),
+        ("fof", "tfenc: 3 syntax at 3\n"),
+        ("fof(", "tfenc: 3 syntax at 4\n"),
+        ("fof(x", "tfenc: 3 syntax at 5\n"),
+        ("fof(x,", "tfenc: 3 syntax at 6\n"),
+        ("fof(x,a", "tfenc: 6 role at 6\n"),
+        ("fof(x,ax", "tfenc: 6 role at 6\n"),
+        ("fof(x,axi", "tfenc: 6 role at 6\n"),
+        ("fof(x,axio", "tfenc: 6 role at 6\n"),
+        ("fof(x,axiom", "tfenc: 3 syntax at 11\n"),
+        ("fof(x,axiom,", "tfenc: 3 syntax at 12\n"),
+        ("fof(x,axiom,a", "tfenc: 3 syntax at 13\n"),
+        ("fof(x,axiom,a)", "tfenc: 3 syntax at 14\n"),
+    ] {
+        let seen = see(rt.alloc(), text, ENCODE, 1000, &[])?;
+        assert_eq!(rt; seen.status, 1, "at {text}");
         assert_eq!(rt; seen.notes.as_slice(), note.as_bytes(), "at {text}");
         assert!(rt; seen.out.is_empty());
     }
@@ -111,13 +142,13 @@ fn what_stops_a_run_is_noted(rt: HostRuntime) -> Result<(), Fail> {
 #[test]
 fn failing_files_and_outputs_are_told(rt: HostRuntime) -> Result<(), Fail> {
     let text = "fof(one,axiom,![X,Y]: X = Y).";
-    let unread = seen(rt.alloc(), text, ENCODE, 1000, &[1])?;
+    let unread = see(rt.alloc(), text, ENCODE, 1000, &[1])?;
     assert_eq!(rt; unread.status, 6);
     assert_eq!(rt;
         unread.notes.as_slice(),
         b"tfenc: cannot read p\n".as_slice()
     );
-    let full = seen(rt.alloc(), text, ENCODE, 10, &[])?;
+    let full = see(rt.alloc(), text, ENCODE, 10, &[])?;
     assert_eq!(rt; full.status, 7);
     assert_eq!(rt; full.out.as_slice(), b"% tfenc er".as_slice());
     assert_eq!(rt; full.notes.as_slice(), b"tfenc: cannot write\n".as_slice());

@@ -1,6 +1,5 @@
-//! What no clause says: that each call succeeds, on structures whose models are told by hand.
+//! What no clause says: that copies succeed.
 
-use crate::env::FofEnv;
 use crate::formula::{Fof, FofTerm, copy_formulas, copy_terms, same_formulas, same_terms};
 use crate::problem::{
     FofFormula, FofProblem, FofRole, FofSymbol, copy_stated, copy_symbols, same_stated,
@@ -56,53 +55,6 @@ fn structure(alloc: Global, size: u32, c: u32, p: &[u32]) -> Result<Structure, F
     tables.push(list(alloc, c)?)?;
     tables.push(List::from_vec(p.to_vec(alloc)?))?;
     Ok(Structure { size, tables })
-}
-
-#[test]
-fn first_false_formulas(rt: HostRuntime) -> Result<(), Fail> {
-    let alloc = rt.alloc();
-    let problem = problem(alloc)?;
-    let signature = problem.signature.as_slice();
-    let rows: [(u32, u32, &[u32], &str); 6] = [
-        (2, 0, &[1, 0], "model"),
-        (2, 1, &[0, 1], "model"),
-        (2, 1, &[1, 0], "0"),
-        (2, 0, &[1, 1], "1"),
-        (2, 2, &[1, 1], "not well formed"),
-        (3, 0, &[1, 0], "not well formed"),
-    ];
-    for (size, c, p, want) in rows {
-        let made = structure(alloc, size, c, p)?;
-        let mut told = String::new(alloc);
-        if !made.well_formed(signature) {
-            told = format!(in alloc; "not well formed")?;
-        } else {
-            let mut env = FofEnv::new(alloc, problem.most_terms())?;
-            told = match made.first_false(&problem, &mut env) {
-                None => format!(in alloc; "model")?,
-                Some(index) => format!(in alloc; "{index}")?,
-            };
-        }
-        assert_eq!(rt; told.as_str(), want, "at {size} {c}");
-    }
-    Ok(())
-}
-
-#[test]
-fn values_and_truth(rt: HostRuntime) -> Result<(), Fail> {
-    let alloc = rt.alloc();
-    let problem = problem(alloc)?;
-    let signature = problem.signature.as_slice();
-    let made = structure(alloc, 2, 1, &[0, 1])?;
-    let mut env = FofEnv::new(alloc, 1)?;
-    env.bind(1);
-    let value = made.value(signature, &FofTerm::Var(0), &env);
-    let atom = Fof::Atom(1, list(alloc, FofTerm::Var(0))?);
-    let held = made.holds(signature, &atom, &mut env);
-    env.unbind();
-    assert_eq!(rt; value, 1, "the last element");
-    assert!(rt; held, "its atom");
-    Ok(())
 }
 
 #[test]

@@ -1,5 +1,4 @@
-use Rattle.std.proofs.Common.{◌∙◌, ◌≡◌, Option, Some, None, true, false, length, sym, ap, subst}
-use Rattle.std.specs.Prelude.{option_map}
+use Rattle.std.proofs.Common.{◌∙◌, Some, None, length, sym, ap}
 use Rattle.tptp_syntax.specs.declared.formula.RawFormula.TheVariants as f
 use Rattle.enc_run.specs.declared.thin.names.Variable.{Variable}
 use Rattle.enc_run.specs.Variables.{variables_of}

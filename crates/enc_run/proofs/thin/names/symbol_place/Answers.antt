@@ -1,7 +1,7 @@
 use Rattle.std.proofs.Common.{◌∙◌, sym, ap}
 use Rattle.std.specs.Str.{bytes_eq}
 use Rattle.fof_models.specs.declared.problem.FofSymbol.{FofSymbol}
-use Rattle.enc_run.proofs.ThinNames.{found_here, not_here, nowhere}
+use Rattle.enc_run.proofs.ThinNames.{found_here, not_here}
 use Rattle.enc_run.proofs.thin.names.symbol_place.Goals as goal
 
 pub returns-then-eq-clause-exact : goal.returns-then-eq-clause-exact

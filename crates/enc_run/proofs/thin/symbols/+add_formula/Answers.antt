@@ -1,4 +1,4 @@
-use Rattle.std.proofs.Common.{◌∙◌, ◌∷◌, ◌++◌, true, sym, ap, length, map}
+use Rattle.std.proofs.Common.{◌∙◌, ◌∷◌, true, sym, ap, length, map}
 use Rattle.enc_run.specs.Thin.{first_uses, flat, term_uses, formula_uses, use_of}
 use Rattle.enc_run.proofs.Uses.{first_uses-append, formula_uses-atom, formula_uses-equal, formula_uses-for_all, formula_uses-other}
 use Rattle.enc_run.proofs.thin.symbols.+add_formula.Goals as goal

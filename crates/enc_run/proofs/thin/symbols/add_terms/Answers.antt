@@ -1,6 +1,6 @@
-use Rattle.std.proofs.Common.{◌+◌, ◌∙◌, sym, ap, drop, map}
+use Rattle.std.proofs.Common.{◌+◌, ◌∙◌, ap, drop, map}
 use Rattle.enc_run.specs.Thin.{first_uses, flat, term_uses}
-use Rattle.enc_run.proofs.Uses.{uses_next, uses_end}
+use Rattle.enc_run.proofs.Uses.{uses_next}
 use Rattle.enc_run.proofs.thin.symbols.add_terms.Goals as goal
 
 pub loop-term-preserved : goal.loop-term-preserved

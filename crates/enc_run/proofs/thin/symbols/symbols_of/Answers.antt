@@ -1,4 +1,4 @@
-use Rattle.std.proofs.Common.{◌+◌, ◌∙◌, sym, ap, drop, map}
+use Rattle.std.proofs.Common.{◌+◌, ◌∙◌, ap, drop, map}
 use Rattle.enc_run.specs.Thin.{first_uses, flat, entry_uses}
 use Rattle.enc_run.proofs.Uses.{uses_next}
 use Rattle.enc_run.proofs.thin.symbols.symbols_of.Goals as goal

@@ -1,4 +1,4 @@
-use Rattle.std.proofs.Common.{◌∙◌, ◌<◌, ◌≤◌, ◌≡◌, ◌++◌, ◌∷◌, [], false, length, sym, ap, subst, arith}
+use Rattle.std.proofs.Common.{◌∙◌, ◌<◌, ◌≤◌, ◌++◌, ◌∷◌, [], false, length, sym, ap, arith}
 use Rattle.std.specs.Prelude.{slice_get}
 use Rattle.fof_models.specs.Sound.{is_symbol}
 use Rattle.fof_text.specs.Names.{place_of}
