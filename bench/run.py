@@ -1,12 +1,10 @@
 #!/usr/bin/env python3
-"""Measures the built program: bench/run.py [reading|typing|encoding ..] [--most BYTES]
+"""Measures the built program: bench/run.py [reading ..] [--most BYTES]
 
 Each text of a family is made at doubling sizes. For each the table gives the time per byte of input, the peak memory per
 byte, and the ratio to the time of `wc -w` on the same file, the least of three runs in one sitting. A text ends in an
 entry that is refused at the stage behind the one that is measured, so that only the stages up to it are run:
   reading    the last word is refused
-  typing     a second conjecture is refused
-  encoding   nothing is refused, and the output is thrown away
 Last come the greatest over the least time per byte of each family from 1 MiB on, and the targets that are missed."""
 import argparse
 import os
@@ -21,7 +19,6 @@ TFENC = os.path.join(os.path.dirname(HERE), 'tfenc')
 MOST = 16777216
 
 BAD_WORD = 'fof(last,axiom,p & .\n'
-TWO_CONJECTURES = 'fof(a,conjecture,p).\nfof(b,conjecture,p).\n'
 
 
 def typed_lists(size):
@@ -51,17 +48,6 @@ def typed_lists(size):
     return '\n'.join(lines) + '\n'
 
 
-def axioms(size):
-    line = 'fof(monotone,axiom,![X,Y]: (less(X,succ(Y)) => (even(X) | ~ odd(Y,plus(X,Y))))).\n'
-    return line * (size // len(line))
-
-
-def deep(size):
-    unit = 'fof(d,axiom,' + '~ (' * 150 + 'p(X) & q' + ')' * 150 + ').\n'
-    unit = unit.replace('p(X)', 'p')
-    return unit * (size // len(unit))
-
-
 def chain(size):
     return 'fof(c,axiom,' + 'p & ' * (size // 4) + 'p).\n'
 
@@ -82,12 +68,10 @@ FAMILIES = {
     'reading': {
         'typed lists': typed_lists, 'chain': chain, 'list': wide, 'comment': comment, 'spaces': spaces,
     },
-    'typing': {'typed lists': typed_lists, 'axioms': axioms},
-    'encoding': {'axioms': axioms, 'deep': deep, 'wide': wide},
 }
-ENDS = {'reading': BAD_WORD, 'typing': TWO_CONJECTURES, 'encoding': ''}
-STATUSES = {'reading': 1, 'typing': 1, 'encoding': 0}
-MEMORY = {'reading': 64, 'typing': None, 'encoding': 200}
+ENDS = {'reading': BAD_WORD}
+STATUSES = {'reading': 1}
+MEMORY = {'reading': 64}
 MOST_OF_WC = {'reading': 25}
 
 
@@ -119,8 +103,6 @@ def main():
             size = min(options.most, MOST) // 32
             while size <= options.most:
                 end = ENDS[stage]
-                if stage == 'encoding' and family == 'wide' and size > MOST // 4:
-                    break
                 text = make(size - len(end) - 200) + end
                 with tempfile.NamedTemporaryFile('w', suffix='.p') as file:
                     file.write(text)
