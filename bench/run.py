@@ -15,7 +15,8 @@ import tempfile
 import time
 
 HERE = os.path.dirname(os.path.abspath(__file__))
-TFENC = os.path.join(os.path.dirname(HERE), 'tfenc')
+TOP = os.path.dirname(HERE)
+TFENC = os.path.join(TOP, 'crates', 'tfenc', 'out', 'tfenc')
 MOST = 16777216
 
 BAD_WORD = 'fof(last,axiom,p & .\n'
@@ -71,7 +72,7 @@ FAMILIES = {
 }
 ENDS = {'reading': BAD_WORD}
 STATUSES = {'reading': 1}
-MEMORY = {'reading': 64}
+MEMORY = {'typed lists': 64}
 MOST_OF_WC = {'reading': 25}
 
 
@@ -95,7 +96,8 @@ def main():
     parser.add_argument('--most', type=int, default=MOST)
     options = parser.parse_args()
     missed = []
-    base = measured([TFENC])[1]
+    subprocess.run([os.path.join(TOP, 'tfenc')], capture_output=True)  # so that the program is built
+    start, base, _ = best([TFENC])
     print(f'{"stage":9} {"family":12} {"bytes":>10} {"ns/byte":>9} {"memory/byte":>12} {"times wc -w":>12}')
     for stage in options.stages or FAMILIES:
         for family, make in FAMILIES[stage].items():
@@ -111,11 +113,11 @@ def main():
                     words, _, _ = best(['wc', '-w', file.name])
                 if status != STATUSES[stage]:
                     missed.append(f'{stage} {family} {len(text)}: status {status}')
-                per_byte = seconds / len(text)
+                per_byte = max(0, seconds - start) / len(text)
                 room = max(0, memory - base) / len(text)
-                if len(text) >= 1 << 20:
+                if size >= 1 << 20:
                     times.append(per_byte)
-                    if MEMORY[stage] and room > MEMORY[stage]:
+                    if room > MEMORY.get(family, room):
                         missed.append(f'{stage} {family} {len(text)}: {room:.1f} bytes of memory per byte')
                     if stage in MOST_OF_WC and seconds > MOST_OF_WC[stage] * words:
                         missed.append(f'{stage} {family} {len(text)}: {seconds / words:.1f} times wc -w')
