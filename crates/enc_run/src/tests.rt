@@ -68,6 +68,7 @@ fn problems_of_the_form_are_written(rt: HostRuntime) -> Result<(), Fail> {
 fn other_problems_are_not_built(rt: HostRuntime) -> Result<(), Fail> {
     for text in [
         "fof(x,axiom,p(X)).",
+        "fof(a,axiom,p => q).",
         "fof(x,axiom,~p).",
         "fof(x,axiom,a | b).",
         "fof(x,axiom,?[X]: p(X)).",
