@@ -11,3 +11,5 @@ pub mod Limits
 pub mod Balance
 pub mod Turns
 pub mod Fronts
+pub mod Walks
+pub mod WalkLevels

@@ -1,17 +1,16 @@
 -- What holds of every file that a text spells.
-use Rattle.std.proofs.Common.{◌≡◌, ℕ, ◌+◌, ◌≤◌, List, [], ◌∷◌, length, None, refl}
-use Rattle.std.proofs.Common.{ap, arith, ◌∙◌, length-append}
+use Rattle.std.proofs.Common.{ℕ, ◌≤◌, List, [], ◌∷◌, length, None, refl}
+use Rattle.std.proofs.Common.{arith}
 use Rattle.std.specs.Prelude.{IsTrue}
 use Rattle.std.specs.List.{AllByRecursion, list_all}
 use Rattle.tptp_words.specs.Text.{Placed, tokens, IsText}
-use Rattle.tptp_words.proofs.Gaps.{gap_bytes}
-use Rattle.tptp_words.proofs.Lists.{spelled_some}
 use Rattle.tptp_syntax.specs.declared.entry.Entry.{Entry}
 use Rattle.tptp_syntax.specs.declared.entry.File.{File}
 use Rattle.tptp_syntax.specs.FileNames.{IsWritableFile, entry_names}
 use Rattle.tptp_syntax.specs.FileSizes.{entry_has_chains, file_size, HasPairsFile}
 use Rattle.tptp_syntax.specs.Files.{Spells, strict}
 use Rattle.tptp_syntax.proofs.WordFacts.{Spelled}
+use Rattle.tptp_syntax.proofs.WordCounts.{words_within}
 use Rattle.tptp_syntax.proofs.TreeFacts.{AreWritable, writable_all, true_both}
 use Rattle.tptp_syntax.proofs.RuleFacts.{EntryHolds, gives_file}
 
@@ -23,20 +22,6 @@ spelled_words : (total : ℕ) (text : List ℕ) (ws : List Placed) → IsText to
 spelled_words total text [] h = tt
 spelled_words total text (w ∷ ws) (start, rest, gap, word, at, others) =
     (word.spells, spelled_words total rest ws others)
-
--- each word has a byte of its own
-words_within : (total : ℕ) (text : List ℕ) (ws : List Placed) → IsText total text ws None
-    → length (tokens ws) ≤ length text
-words_within total text [] h = omega arith
-words_within total text (w ∷ ws) (start, rest, gap, word, at, others) =
-    let before = gap_bytes gap in
-    let first : length text ≡ length before.0 + length start
-    = ap length before.1 ∙ length-append before.0 start in
-    let second : length start ≡ length w.token.spelling + length rest
-    = ap length word.is ∙ length-append w.token.spelling rest in
-    let some = spelled_some w.token.kind w.token.spelling word.spells in
-    let more = words_within total rest ws others in
-    omega (arith, first, second, some, more)
 
 -- ---- files
 
@@ -61,7 +46,7 @@ file_facts text f (ws, is_text, (n, d)) =
     (spelled_words (length text) text ws is_text) d in
     let count = taken.is in
     let small = taken.holds.within in
-    let words = words_within (length text) text ws is_text in (
+    let words = words_within (length text) text ws None is_text in (
       writable_all entry_names f.entries (names_of_entries f.entries taken.holds.holds),
       omega (arith, count, small, words),
       chains_of_entries f.entries taken.holds.holds,

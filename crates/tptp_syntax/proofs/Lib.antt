@@ -1,4 +1,5 @@
 pub mod WordFacts
+pub mod WordCounts
 pub mod TreeFacts
 pub mod PartFacts
 pub mod RuleFacts
@@ -19,3 +20,6 @@ pub mod SkippedWords
 pub mod GrammarFronts
 pub mod OneAnswer
 pub mod Verdicts
+pub mod NestingWords
+pub mod NestingRules
+pub mod NestingFiles

@@ -1,12 +1,13 @@
 -- What a reader with one word in hand has left, and what its calls give.
 use Rattle.std.specs.Prelude.{◌≡◌, ◌≢◌, ◌⊎◌, ℕ, List, [], ◌∷◌, Option, Some, None, Result, Ok, Err, codes}
-use Rattle.std.specs.Prelude.{is_some}
+use Rattle.std.specs.Prelude.{is_some, ◌≤◌, length}
 use Rattle.tptp_phrases.specs.Phrase.{open_behind}
 use Rattle.tptp_words.specs.declared.word.WordError.{WordError}
 use Rattle.tptp_words.specs.Text.{Token, Placed}
 use Rattle.tptp_words.specs.Words.{mark, keyword, dollar}
 use Rattle.tptp_words.specs.Scanning.{Left}
-use Rattle.tptp_phrases.specs.Readers.{Cause, Syntax, TooDeep, Stray, Outcome}
+use Rattle.tptp_words.specs.Steps.{AllSpelled}
+use Rattle.tptp_phrases.specs.Readers.{Cause, Syntax, TooDeep, Stray, Outcome, seen}
 use Rattle.tptp_syntax.specs.declared.fixed.Fixed.{Fixed}
 use Rattle.tptp_syntax.specs.declared.fixed.Fixed.TheVariants as x
 use Rattle.tptp_syntax.specs.declared.fault.Fault.{Fault}
@@ -23,6 +24,12 @@ ahead_of (n.Word kind from spelling) l = record {
 }
 ahead_of n.End l = record { words = []; fault = None }
 ahead_of (n.Fault e) l = record { words = []; fault = Some e }
+
+-- What a reader keeps of its text: the words are spelled there, and there are no more words left
+-- than bytes in it.
+pub record IsHeld (text : List ℕ) (next : Next) (words : Left) : Type 0 where
+  pub spelled : AllSpelled text words.words
+  pub few : length (seen (ahead_of next words)) ≤ length text
 
 -- what is left behind the next word, where there is one
 abbrev pub behind_first : List Placed → Option WordError → Left

@@ -4,6 +4,7 @@ pub mod FileLaws
 pub mod Strays
 pub mod Grammar
 pub mod Files
+pub mod Nesting
 pub mod Descent
 pub mod Ahead
 pub mod Answers

@@ -1,10 +1,9 @@
 //! The reader of entries and files.
 #![tactic(auto, unfolding(tptp_phrases::specs::Readers::seq, tptp_phrases::specs::Readers::choose, tptp_phrases::specs::Readers::give, tptp_phrases::specs::Readers::refuse_stray, crate::specs::Descent::declaration_at, crate::specs::Descent::entry_at, crate::specs::Descent::file_at))]
 
-ghost use Rattle.std.specs.Prelude.{◌≡◌, ◌<◌, [], true, codes, IfOk, IfErr};
+ghost use Rattle.std.specs.Prelude.{◌≡◌, ◌+◌, ◌<◌, ◌^◌, [], true, codes};
 ghost use Rattle.tptp_phrases.specs.Readers.{Outcome, many_at, limit_cause, no_strays, seen, skip_balanced};
 ghost use Rattle.tptp_phrases.specs.Readers as readers;
-ghost use Rattle.tptp_syntax.specs.declared.fault.Fault.TheVariants.{Memory};
 ghost use Rattle.tptp_syntax.specs.Descent as descent;
 ghost use Rattle.tptp_syntax.specs.Ahead as spec;
 ghost use Rattle.tptp_syntax.specs.Ahead.{Gives, cause};
@@ -76,22 +75,18 @@ fn declaration_inside(
 }
 
 /// How many brackets are open behind the next word; `None` where it closes one that is not open.
-/// More open brackets than a `usize` counts are want of memory; no text has so many.
-fn open_behind(reader: &Reader<'_>, count: usize) -> Result<Option<usize>, Fault>
-    requires { readers.goes_on descent.any_word (seen reader.now) ≡ true }
-    ensures exact { IfOk result (λ it. it ≡ spec.open_first (seen reader.now) count) }
-    ensures failed { IfErr result (λ e. e ≡ Memory) }
+fn open_behind(reader: &Reader<'_>, count: usize) -> Option<usize>
+    requires word { readers.goes_on descent.any_word (seen reader.now) ≡ true }
+    requires counted { count + 1 < 2 ^ 64 }
+    ensures { result ≡ spec.open_first (seen reader.now) count }
 {
     if reader.sees(Fixed::Open) {
-        return match count.checked_add(1) {
-            Some(more) => Ok(Some(more)),
-            None => Err(Fault::Memory),
-        };
+        return Some(count + 1);
     }
     if reader.sees(Fixed::Close) {
-        return Ok(count.checked_sub(1));
+        return count.checked_sub(1);
     }
-    Ok(Some(count))
+    Some(count)
 }
 
 /// Whether so many open brackets and words make notes.
@@ -109,10 +104,11 @@ fn enough(count: usize, some: bool) -> Result<(), Fault>
 fn skip_words(reader: &mut Reader<'_>) -> Result<(), Fault>
     ensures { Gives (skip_balanced (descent.sees (codes "(")) (descent.sees (codes ")")) reader.old) result reader.new }
 {
+    reader.words_can_be_counted();
     let mut count = 0;
     let mut some = false;
     'words: while reader.sees_word() {
-        match open_behind(reader, count)? {
+        match open_behind(reader, count) {
             Some(more) => count = more,
             None => return enough(0, some),
         }

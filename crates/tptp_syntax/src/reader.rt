@@ -43,14 +43,13 @@ pub struct Reader<'a> {
 
 impl<'a> Model for Reader<'a> {
     ghost use Rattle.tptp_words.specs.Scanning.{Left};
-    ghost use Rattle.tptp_words.specs.Steps.{AllSpelled};
-    ghost use Rattle.tptp_syntax.specs.Ahead.{ahead_of};
+    ghost use Rattle.tptp_syntax.specs.Ahead.{ahead_of, IsHeld};
 
     ghost Value = { Left };
 
     ghost view = { λ r. ahead_of r.next r.words };
 
-    ghost invariant = { λ r. AllSpelled r.text.now r.words.words };
+    ghost invariant = { λ r. IsHeld r.text.now r.next r.words };
 }
 
 /// The bytes of the text from one place up to another.
@@ -87,6 +86,13 @@ impl<'a> Reader<'a> {
         let mut words = Words::new(text);
         let next = next_of(text, &mut words);
         Reader { text, words, next }
+    }
+
+    /// So few words are left that a `usize` counts them, since each has a byte of the text.
+    pub fn words_can_be_counted(&self)
+        ensures { length (seen self.now) < 2 ^ 64 }
+    {
+        let _bytes = self.text.len();
     }
 
     /// Goes past the next word, if there is one.

@@ -85,6 +85,39 @@ fn each_refusal_has_its_place_and_number(rt: HostRuntime) {
     }
 }
 
+/// Whether the file of the text is the same as the copy of the file of the other text.
+fn same_as_copy(alloc: Global, text: &[u8], other: &[u8]) -> Result<bool, ReadError> {
+    let file = read_file(alloc, text)?;
+    let Ok(copy) = read_file(alloc, other)?.copy(alloc) else {
+        return Err(ReadError::Memory);
+    };
+    Ok(file.same(&copy))
+}
+
+#[test]
+fn a_file_is_the_same_as_its_copy_and_as_no_other(rt: HostRuntime) {
+    let alloc = rt.alloc();
+    let texts: [&[u8]; 12] = [
+        b"",
+        b"fof(a,axiom,p).",
+        b"fof(a,conjecture,p).",
+        b"fof(a,axiom,p & q).",
+        b"fof(a,axiom,p | q).",
+        b"fof(a,axiom,(p <~> q) ~& (p ~| q)).",
+        b"fof(a,axiom,![X]: (X = f(X,$i) => ~ $true)).",
+        b"fof(a,axiom,![X]: (X != f(X,$i) <= ~ $false)).",
+        b"tff(a,axiom,?[X: list(b),Y]: (p(X) <=> q(Y))).",
+        b"tff(a,axiom,?[X,Y]: (p(X) <=> q(Y))).",
+        b"tff(a,type,f: !>[A: $tType]: (A * $i > $o)).",
+        b"tff(a,type,f: !>[B: $tType]: (B * $i > $o)).",
+    ];
+    for (i, text) in texts.iter().enumerate() {
+        for (j, other) in texts.iter().enumerate() {
+            assert!(rt; same_as_copy(alloc, text, other) == Ok(i == j));
+        }
+    }
+}
+
 /// How many entries a file with one formula below so many `~` has.
 fn nested_entries(alloc: Global, count: usize) -> Result<usize, ReadError> {
     let Ok(mut text) = b"fof(d,axiom,".to_vec(alloc) else {
