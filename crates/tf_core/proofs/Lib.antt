@@ -10,9 +10,16 @@ pub mod Quantified
 pub mod FormulaInduction
 pub mod Depth
 pub mod StatedFormulas
+pub mod SoundExamples
 pub mod Typed
 pub mod Checked
+pub mod Compared
+pub mod CheckedTerms
+pub mod CheckedFormulas
+pub mod CheckedNnf
 pub mod TypedTerms
 pub mod TypedFormulas
 pub mod TypedNnf
 pub mod TypedProblems
+pub mod TypingKept
+pub mod NnfTypingKept

@@ -1,10 +1,9 @@
 -- The typing relation of formulas and its test say the same.
-use Rattle.std.specs.Prelude.{ℕ, ◌≡◌, Bool, true, ◌&&◌, List, [], ◌∷◌, IsTrue}
+use Rattle.std.specs.Prelude.{ℕ, List, [], ◌∷◌, IsTrue}
 use Rattle.std.specs.List.{AllByRecursion, list_all}
 use Rattle.std.proofs.Common.{refl, sym, ◌∙◌}
 use Rattle.std.proofs.lemmas.Bool.{and_parts, and_from}
 use Rattle.tf_core.specs.declared.ty.Ty.{Ty}
-use Rattle.tf_core.specs.declared.term.Term.{Term}
 use Rattle.tf_core.specs.declared.formula.Formula.{Formula}
 use Rattle.tf_core.specs.declared.signature.Signature.{Signature}
 use Rattle.tf_core.specs.Typing.{IsFormula, AreFormulas, is_true, is_false, is_atom, is_equal, is_not, is_and, is_or, is_implies, is_if, is_iff, is_xor, is_nand, is_nor, is_for_all, is_exists, no_formulas, more_formulas}

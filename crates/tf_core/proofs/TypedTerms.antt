@@ -10,7 +10,7 @@ use Rattle.tf_core.specs.declared.signature.Symbol.{Symbol}
 use Rattle.tf_core.specs.declared.signature.Signature.{Signature}
 use Rattle.tf_core.specs.Types.{pass_in_order, instantiate}
 use Rattle.tf_core.specs.Typing.{AreTypes, HasType, of_variable, of_apply, HaveTypes, no_terms, more_terms, IsAtom, IsEquation}
-use Rattle.tf_core.specs.TypingTests.{is_of_type, fit, gives, gives_nothing, is_function, is_predicate, is_atom_test, is_equation_test, is_type, are_types, has_type}
+use Rattle.tf_core.specs.TypingTests.{is_of_type, takes_types, fit, gives, gives_nothing, is_function, is_predicate, is_atom_test, is_equation_test, is_type, are_types, has_type}
 use Rattle.tf_core.proofs.TypingTests.{has_type-variable, has_type-apply}
 use Rattle.tf_core.proofs.Induction.{term_induction}
 use Rattle.tf_core.proofs.Typed.{AreTypes-from, are_types-from, IsType-from, is_type-from, same_type-says, same_type-self}
@@ -39,13 +39,12 @@ module _ (g : Signature) (variables : ℕ) (context : List Ty) where
         (length types ≡ symbol.parameters) × AreTypes g variables types
         × HaveTypes g variables context terms (map (instantiate types) symbol.arguments)
     fit_says symbol holds =
-        let first = and_parts (eqb (length types) symbol.parameters)
-        (are_types g variables types && pass_in_order (map (has_type g variables context) terms) (map (instantiate types) symbol.arguments)) holds in
-        let second = and_parts (are_types g variables types)
-        (pass_in_order (map (has_type g variables context) terms) (map (instantiate types) symbol.arguments)) first.1 in (
-          eqb-true (length types) symbol.parameters first.0,
-          AreTypes-from g variables types second.0,
-          have_from terms (map (instantiate types) symbol.arguments) each second.1,
+        let first = and_parts (takes_types g variables symbol types)
+        (pass_in_order (map (has_type g variables context) terms) (map (instantiate types) symbol.arguments)) holds in
+        let second = and_parts (eqb (length types) symbol.parameters) (are_types g variables types) first.0 in (
+          eqb-true (length types) symbol.parameters second.0,
+          AreTypes-from g variables types second.1,
+          have_from terms (map (instantiate types) symbol.arguments) each first.1,
         )
 
     gives_says : (result : Option Ty) (ty : Ty) → IsTrue (gives result types ty) →
@@ -100,8 +99,10 @@ module _ (g : Signature) (variables : ℕ) (context : List Ty) where
       IsTrue (pass_in_order (map (has_type g variables context) terms) (map (instantiate types) symbol.arguments)) →
       IsTrue (fit g variables symbol types (map (has_type g variables context) terms))
   fit_from symbol types terms count formed pass =
-      and_from (eqb (length types) symbol.parameters) _ (eq-eqb (length types) symbol.parameters count)
-      (and_from (are_types g variables types) _ (are_types-from g variables types formed) pass)
+      and_from (takes_types g variables symbol types) _
+      (and_from (eqb (length types) symbol.parameters) (are_types g variables types)
+      (eq-eqb (length types) symbol.parameters count) (are_types-from g variables types formed))
+      pass
 
   mutual
     pub has_type-from : (t : Term) (ty : Ty) → HasType g variables context t ty →

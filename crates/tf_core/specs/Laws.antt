@@ -13,9 +13,9 @@ use Rattle.tf_core.specs.Structures.{Typed, size_of, member_of}
 use Rattle.tf_core.specs.Truth.{value, truth, normal_truth}
 use Rattle.tf_core.specs.declared.problem.Problem.{Problem}
 use Rattle.tf_core.specs.declared.normal.Normal.{Normal}
-use Rattle.tf_core.specs.Typing.{IsType, IsNnf, IsSignature, IsProblem, IsNormal}
+use Rattle.tf_core.specs.Typing.{IsType, AreTypes, HasType, IsNnf, IsSignature, IsProblem, IsNormal}
 use Rattle.tf_core.specs.TypingTests.{is_signature, is_problem, is_normal}
-use Rattle.tf_core.specs.Substitution.{shift, substitute_types}
+use Rattle.tf_core.specs.Substitution.{shift, substitute_term, substitute_types}
 
 -- a test of a formula's elements holds of each element of a type's member, and of some
 abbrev pub AtEach : Typed → List ℕ → Ty → (ℕ → Bool) → Type 0
@@ -70,6 +70,28 @@ SubstitutionKeepsTruth = (g : Signature) (s : Typed) (members : List ℕ) (insta
     (context : List Ty) (p : Nnf) (elements : List ℕ) → IsNnf g (length instances) context p →
     normal_truth s members (substitute_types instances p) elements
     ≡ normal_truth s (map (member_of s members) instances) p elements
+
+-- a type of so many variables, instantiated by as many types of other variables, is a type of these
+abbrev pub InstancesAreTyped : Type 0
+InstancesAreTyped = (g : Signature) (others : ℕ) (instances : List Ty) (ty : Ty) →
+    AreTypes g others instances → IsType g (length instances) ty →
+    IsType g others (instantiate instances ty)
+
+-- a shifted term has the term's type where the types of the new variables are put in its context
+abbrev pub ShiftedTermsAreTyped : Type 0
+ShiftedTermsAreTyped = (g : Signature) (variables : ℕ) (before inserted after : List Ty) (t : Term)
+    (ty : Ty) → HasType g variables (before ++ after) t ty →
+    HasType g variables (before ++ (inserted ++ after)) (shift (length inserted) (length before) t) ty
+
+-- terms and formulas with their types replaced are well typed in the context with its types replaced
+pub record SubstitutionKeepsTyping : Type 0 where
+  pub term : (g : Signature) (others : ℕ) (instances context : List Ty) (t : Term) (ty : Ty) →
+      IsSignature g → AreTypes g others instances → HasType g (length instances) context t ty →
+      HasType g others (map (instantiate instances) context) (substitute_term instances t)
+      (instantiate instances ty)
+  pub normal : (g : Signature) (others : ℕ) (instances context : List Ty) (p : Nnf) →
+      IsSignature g → AreTypes g others instances → IsNnf g (length instances) context p →
+      IsNnf g others (map (instantiate instances) context) (substitute_types instances p)
 
 -- the tests of typing say what the relations say
 pub record TypingIsDecided : Type 0 where

@@ -5,6 +5,7 @@ pub mod Models
 pub mod TypedTables
 pub mod Typing
 pub mod TypingTests
+pub mod Contexts
 pub mod Substitution
 pub mod Sorts
 pub mod Counts

@@ -47,12 +47,16 @@ abbrev pub is_of_type : Option Ty → Ty → Bool
 is_of_type None ty = false
 is_of_type (Some declared) ty = same_type declared ty
 
+-- the symbol has as many parameters as there are types, and the types are formed
+abbrev pub takes_types : Signature → ℕ → Symbol → List Ty → Bool
+takes_types g variables symbol types =
+    eqb (length types) symbol.parameters && are_types g variables types
+
 -- the arguments of a symbol pass at its declared types, seen at the types for its parameters
 abbrev pub fit : Signature → ℕ → Symbol → List Ty → List (Ty → Bool) → Bool
 fit g variables symbol types tests =
-    eqb (length types) symbol.parameters
-    && (are_types g variables types
-    && pass_in_order tests (map (instantiate types) symbol.arguments))
+    takes_types g variables symbol types
+    && pass_in_order tests (map (instantiate types) symbol.arguments)
 
 abbrev pub gives : Option Ty → List Ty → Ty → Bool
 gives None types ty = false

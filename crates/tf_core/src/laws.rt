@@ -1,4 +1,4 @@
-ghost use Rattle.tf_core.specs.Laws.{UniversalIsTrueOfEach, ExistentialIsTrueOfSome, EntriesStandInBlocks, InstancesHaveValues, ShiftedTermsHaveValues, SubstitutionKeepsTruth, TypingIsDecided};
+ghost use Rattle.tf_core.specs.Laws.{UniversalIsTrueOfEach, ExistentialIsTrueOfSome, EntriesStandInBlocks, InstancesHaveValues, ShiftedTermsHaveValues, SubstitutionKeepsTruth, InstancesAreTyped, ShiftedTermsAreTyped, SubstitutionKeepsTyping, TypingIsDecided};
 
 /// A universal formula is true exactly where its body is true of each element of the type's member.
 pub fn universal_is_true_of_each()
@@ -28,6 +28,21 @@ pub fn shifted_terms_have_values()
 /// A formula with its types replaced is as true as the formula is at the values of the types.
 pub fn substitution_keeps_truth()
     ensures { SubstitutionKeepsTruth }
+{}
+
+/// A type instantiated by types that are formed is formed.
+pub fn instances_are_typed()
+    ensures { InstancesAreTyped }
+{}
+
+/// A shifted term has the term's type, with the types of the new variables put in its context.
+pub fn shifted_terms_are_typed()
+    ensures { ShiftedTermsAreTyped }
+{}
+
+/// Terms and formulas with their types replaced are well typed where they were before.
+pub fn substitution_keeps_typing()
+    ensures { SubstitutionKeepsTyping }
 {}
 
 /// The tests of typing say what the typing relations say.

@@ -1,21 +1,31 @@
 //! Types, terms, formulas and problems of typed first-order logic.
 #![tactic(auto)]
 
+mod context;
 mod formula;
+mod formula_typing;
+mod instance;
 mod laws;
 mod nnf;
+mod nnf_typing;
 mod normal;
 mod number;
 mod problem;
+mod scope;
 mod signature;
 mod term;
+mod terms;
+#[cfg(test)]
+mod tests;
 mod ty;
 mod typing;
 
 pub use formula::{Formula, copy_formulas, same_formulas};
+pub use instance::{is_instance, same_instance};
 pub use laws::{
-    entries_stand_in_blocks, existential_is_true_of_some, instances_have_values,
-    shifted_terms_have_values, substitution_keeps_truth, typing_is_decided,
+    entries_stand_in_blocks, existential_is_true_of_some, instances_are_typed,
+    instances_have_values, shifted_terms_are_typed, shifted_terms_have_values,
+    substitution_keeps_truth, substitution_keeps_typing, typing_is_decided,
     universal_is_true_of_each,
 };
 pub use nnf::{Nnf, copy_parts, same_parts};

@@ -1,10 +1,18 @@
-ghost use Rattle.std.specs.Prelude.{◌≡◌, ◌↔◌, IsTrue, slice_get};
+ghost use Rattle.std.specs.Prelude.{◌≡◌, ◌↔◌, [], IsTrue, IfOk, slice_get};
 ghost use Rattle.std.specs.List.{list_all};
-ghost use Rattle.tf_core.specs.Typing.{IsSignature};
-ghost use Rattle.tf_core.specs.TypingTests.{takes, is_type, are_types, is_result, is_symbol};
+ghost use Rattle.tf_core.specs.Typing.{IsSignature, IsProblem, IsNormal};
+ghost use Rattle.tf_core.specs.TypingTests.{takes, is_type, are_types, is_result, is_symbol, is_formula, is_nnf};
 
+use crate::context::Context;
+use crate::formula_typing::is_formula;
+use crate::nnf_typing::is_nnf;
+use crate::normal::{Normal, NormalFormula};
+use crate::problem::{Problem, Stated};
+use crate::scope::Scope;
 use crate::signature::{Signature, Symbol};
 use crate::ty::Ty;
+use enc_base::NoMemory;
+use std::alloc::Global;
 
 impl Signature {
     /// Whether every type of the signature is formed from its constructors at their numbers of
@@ -24,6 +32,68 @@ impl Signature {
             None => false,
         }
     }
+}
+
+impl Problem {
+    /// Whether the problem is well typed. It takes memory for the types of nested binders alone.
+    pub fn check(&self, alloc: Global) -> Result<bool, NoMemory>
+        ensures exact { IfOk result (λ typed. IsTrue typed ↔ IsProblem self.now) }
+    {
+        if !self.signature.check() {
+            return Ok(false);
+        }
+        are_stated(alloc, &self.signature, self.formulas.as_slice())
+    }
+}
+
+impl Normal {
+    /// Whether the problem is well typed. It takes memory for the types of nested binders alone.
+    pub fn check(&self, alloc: Global) -> Result<bool, NoMemory>
+        ensures exact { IfOk result (λ typed. IsTrue typed ↔ IsNormal self.now) }
+    {
+        if !self.signature.check() {
+            return Ok(false);
+        }
+        are_normal(alloc, &self.signature, self.formulas.as_slice())
+    }
+}
+
+// whether each stated formula is well typed
+fn are_stated(alloc: Global, signature: &Signature, formulas: &[Stated]) -> Result<bool, NoMemory>
+    ensures exact { IfOk result (λ typed. typed ≡ list_all (λ formula. is_formula signature.now formula.type_variables formula.body []) formulas.now) }
+{
+    let mut context = Context::new(alloc);
+    for formula in formulas {
+        let scope = Scope {
+            signature,
+            variables: formula.type_variables,
+        };
+        if !is_formula(&formula.body, &scope, &mut context)? {
+            return Ok(false);
+        }
+    }
+    Ok(true)
+}
+
+// whether each formula of a normal problem is well typed
+fn are_normal(
+    alloc: Global,
+    signature: &Signature,
+    formulas: &[NormalFormula],
+) -> Result<bool, NoMemory>
+    ensures exact { IfOk result (λ typed. typed ≡ list_all (λ formula. is_nnf signature.now formula.type_variables formula.body []) formulas.now) }
+{
+    let mut context = Context::new(alloc);
+    for formula in formulas {
+        let scope = Scope {
+            signature,
+            variables: formula.type_variables,
+        };
+        if !is_nnf(&formula.body, &scope, &mut context)? {
+            return Ok(false);
+        }
+    }
+    Ok(true)
 }
 
 // whether each symbol's types are formed
