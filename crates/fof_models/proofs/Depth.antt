@@ -1,11 +1,10 @@
 -- Depth and number of binders: of the parts of a formula, and of one against the other.
-use Rattle.std.specs.Prelude.{ℕ, zero, suc, ◌≡◌, ◌<◌, ◌≤◌, ◌+◌, max, List, [], ◌∷◌, ◌++◌, map, length, sum, take, get_or}
+use Rattle.std.specs.Prelude.{ℕ, ◌≡◌, ◌<◌, ◌≤◌, ◌+◌, max, List, [], ◌∷◌, ◌++◌, map, length, sum, take, get_or}
 use Rattle.std.specs.List.{AllByRecursion}
-use Rattle.std.proofs.Common.{sym, ap, ◌∙◌, subst, arith}
+use Rattle.std.proofs.Common.{sym, ap, ◌∙◌, arith}
 use Rattle.std.proofs.lemmas.List.{take_more, map-append}
 use Rattle.std.proofs.lemmas.List.Sums.{sum_by-cons}
 use Rattle.fof_models.specs.declared.formula.Fof.{Fof}
-use Rattle.fof_models.specs.declared.formula.Fof.TheVariants as formula
 use Rattle.fof_models.specs.Sound.{binder_count, depth, greatest}
 use Rattle.fof_models.proofs.Sound.{binder_count-true, binder_count-false, binder_count-atom, binder_count-equal, binder_count-not, binder_count-and, binder_count-or, binder_count-implies, binder_count-for_all, binder_count-exists, depth-true, depth-false, depth-atom, depth-equal, depth-not, depth-and, depth-or, depth-implies, depth-for_all, depth-exists}
 use Rattle.fof_models.proofs.Induction.{FormulaCases, formula_induction}
@@ -24,18 +23,6 @@ greatest-more f items i item within is =
     ∙ greatest-append (map f (take i items)) (f (get_or items i item) ∷ [])
     ∙ ap (λ n. max (greatest (map f (take i items))) (max n 0)) (ap f (sym is))
     ∙ omega arith
-
--- an item of a sum is no larger than the sum
-pub at_most_sum : {A : Type 0} (f : A → ℕ) (items : List A) (i : ℕ) (item : A) →
-    i < length items → item ≡ get_or items i item → f item ≤ sum (map f items)
-at_most_sum {A} f items i item within is =
-    subst (λ x. f x ≤ sum (map f items)) (sym is) (go items i within)
-  where
-    go : (xs : List A) (i : ℕ) → i < length xs → f (get_or xs i item) ≤ sum (map f xs)
-    go [] i within = absurd (omega arith)
-    go (x ∷ xs) zero within = omega (arith, sum_by-cons (λ n. n) (f x) (map f xs))
-    go (x ∷ xs) (suc i) within =
-        omega (arith, go xs i (omega arith), sum_by-cons (λ n. n) (f x) (map f xs))
 
 -- there are at least as many binders as nest
 abbrev DepthWithin : Fof → Type 0
@@ -70,29 +57,3 @@ cases = record {
 
 pub depth_within : (p : Fof) → depth p ≤ binder_count p
 depth_within = formula_induction DepthWithin cases
-
--- the binders of a formula's parts
-
-module _ (p : Fof) where
-  pub not_count : (a : Fof) → p ≡ formula.Not a → binder_count p ≡ binder_count a
-  not_count a is = ap binder_count is ∙ binder_count-not a
-
-  pub and_count : (parts : List Fof) → p ≡ formula.And parts →
-      binder_count p ≡ sum (map binder_count parts)
-  and_count parts is = ap binder_count is ∙ binder_count-and parts
-
-  pub or_count : (parts : List Fof) → p ≡ formula.Or parts →
-      binder_count p ≡ sum (map binder_count parts)
-  or_count parts is = ap binder_count is ∙ binder_count-or parts
-
-  pub implies_count : (a b : Fof) → p ≡ formula.Implies a b →
-      binder_count p ≡ binder_count a + binder_count b
-  implies_count a b is = ap binder_count is ∙ binder_count-implies a b
-
-  pub for_all_count : (body : Fof) → p ≡ formula.ForAll body →
-      binder_count p ≡ binder_count body + 1
-  for_all_count body is = ap binder_count is ∙ binder_count-for_all body
-
-  pub exists_count : (body : Fof) → p ≡ formula.Exists body →
-      binder_count p ≡ binder_count body + 1
-  exists_count body is = ap binder_count is ∙ binder_count-exists body

@@ -8,5 +8,6 @@ pub mod Places
 pub mod Parts
 pub mod Depth
 pub mod Stated
+pub mod Tested
 pub mod WellFormed
 pub mod Rows

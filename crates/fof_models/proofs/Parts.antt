@@ -13,7 +13,7 @@ use Rattle.fof_models.specs.Structures.{reading}
 use Rattle.fof_models.specs.Sound.{is_symbol, is_term, are_terms, is_formula, are_formulas, depth, greatest}
 use Rattle.fof_models.specs.Evaluation.{value_in, true_in, true_with, all_true, some_true}
 use Rattle.fof_models.proofs.Truth.{truth-true, truth-false, truth-atom, truth-equal, truth-not, truth-and, truth-or, truth-implies, truth-for_all, truth-exists}
-use Rattle.fof_models.proofs.Sound.{is_formula-atom, is_formula-equal, is_formula-not, is_formula-and, is_formula-or, is_formula-implies, is_formula-for_all, is_formula-exists, depth-true, depth-false, depth-atom, depth-equal, depth-not, depth-and, depth-or, depth-implies, depth-for_all, depth-exists}
+use Rattle.fof_models.proofs.Sound.{is_formula-atom, is_formula-equal, is_formula-not, is_formula-and, is_formula-or, is_formula-implies, is_formula-for_all, is_formula-exists, depth-not, depth-and, depth-or, depth-implies, depth-for_all, depth-exists}
 
 -- soundness
 
@@ -70,18 +70,6 @@ module _ (signature : List FofSymbol) (binders : ℕ) (p : Fof) where
 -- depth
 
 module _ (p : Fof) where
-  pub true_depth : p ≡ formula.True → depth p ≡ 0
-  true_depth is = ap depth is ∙ depth-true
-
-  pub false_depth : p ≡ formula.False → depth p ≡ 0
-  false_depth is = ap depth is ∙ depth-false
-
-  pub atom_depth : (f : ℕ) (terms : List FofTerm) → p ≡ formula.Atom f terms → depth p ≡ 0
-  atom_depth f terms is = ap depth is ∙ depth-atom f terms
-
-  pub equal_depth : (left right : FofTerm) → p ≡ formula.Equal left right → depth p ≡ 0
-  equal_depth left right is = ap depth is ∙ depth-equal left right
-
   pub not_depth : (a : Fof) → p ≡ formula.Not a → depth p ≡ depth a
   not_depth a is = ap depth is ∙ depth-not a
 

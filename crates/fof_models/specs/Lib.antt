@@ -2,6 +2,7 @@ pub mod Structures
 pub mod Truth
 pub mod Models
 pub mod Sound
+pub mod Counted
 pub mod Room
 pub mod Evaluation
 pub mod Tabled

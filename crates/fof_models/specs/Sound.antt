@@ -125,8 +125,17 @@ pub record IsSoundFormula (signature : List FofSymbol) (formula : FofFormula) : 
   pub pairs : IsTrue (has_pairs formula.body)
   pub binders : binder_count formula.body < 2 ^ 30
 
+-- each symbol has few enough arguments
+abbrev pub AreShort : List FofSymbol → Type 0
+AreShort symbols = AllByRecursion (λ symbol. symbol.arity < 2 ^ 30) symbols
+
+-- a signature is sound
+pub record IsSoundSignature (signature : List FofSymbol) : Type 0 where
+  pub symbols : length signature < 2 ^ 30
+  pub arities : AreShort signature
+
 -- a problem is sound
 pub record IsSound (problem : FofProblem) : Type 0 where
   pub symbols : length problem.signature < 2 ^ 30
-  pub arities : AllByRecursion (λ symbol. symbol.arity < 2 ^ 30) problem.signature
+  pub arities : AreShort problem.signature
   pub formulas : AllByRecursion (IsSoundFormula problem.signature) problem.formulas

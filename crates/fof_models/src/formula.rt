@@ -1,5 +1,5 @@
-ghost use Rattle.std.specs.Prelude.{◌≡◌, ◌↔◌, ◌<◌, ◌^◌, IsTrue, IfOk, map, max, sum};
-ghost use Rattle.fof_models.specs.Sound.{binder_count, depth, greatest};
+ghost use Rattle.std.specs.Prelude.{◌≡◌, ◌↔◌, ◌-◌, ◌^◌, IsTrue, IfOk, map, max, min};
+ghost use Rattle.fof_models.specs.Sound.{depth, greatest};
 
 use enc_base::{Boxed, List, NoMemory};
 use std::alloc::Global;
@@ -135,11 +135,11 @@ impl Fof {
         }
     }
 
-    // the greatest number of nested binders
+    /// The greatest number of nested binders, or 2^32 - 1 where it is larger: for so many elements
+    /// `Structure::holds` needs room. It takes no memory.
     #[cycle(nested)]
-    pub(crate) fn nested(&self) -> u32
-        requires bound { binder_count self.now < 2 ^ 30 }
-        ensures exact { result ≡ depth self.now }
+    pub fn nested(&self) -> u32
+        ensures exact { result ≡ min (depth self.now) (2 ^ 32 - 1) }
     {
         match self {
             Fof::True => 0,
@@ -150,8 +150,8 @@ impl Fof {
             Fof::And(parts) => most_nested(parts.as_slice()),
             Fof::Or(parts) => most_nested(parts.as_slice()),
             Fof::Implies(a, b) => greater(a.get().nested(), b.get().nested()),
-            Fof::ForAll(body) => body.get().nested() + 1,
-            Fof::Exists(body) => body.get().nested() + 1,
+            Fof::ForAll(body) => body.get().nested().saturating_add(1),
+            Fof::Exists(body) => body.get().nested().saturating_add(1),
         }
     }
 }
@@ -192,11 +192,10 @@ pub fn same_formulas(formulas: &[Fof], others: &[Fof]) -> bool
     true
 }
 
-// the greatest number of nested binders in formulas
+// the greatest number of nested binders in formulas, or 2^32 - 1 where it is larger
 #[cycle(nested)]
 fn most_nested(parts: &[Fof]) -> u32
-    requires bound { sum (map binder_count parts.now) < 2 ^ 30 }
-    ensures exact { result ≡ greatest (map depth parts.now) }
+    ensures exact { result ≡ min (greatest (map depth parts.now)) (2 ^ 32 - 1) }
 {
     let mut most = 0;
     for part in parts {

@@ -5,6 +5,7 @@ mod env;
 mod first_false;
 mod formula;
 mod holds;
+mod is_sound;
 mod laws;
 mod problem;
 mod structure;
@@ -15,6 +16,7 @@ mod well_formed;
 
 pub use env::FofEnv;
 pub use formula::{Fof, FofTerm, copy_formulas, copy_terms, same_formulas, same_terms};
+pub use is_sound::is_sound_signature;
 pub use laws::{
     entries_stand_at_places, existential_is_true_of_some, models_are_tables, tables_are_functions,
     universal_is_true_of_each,
