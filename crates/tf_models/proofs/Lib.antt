@@ -1,0 +1,16 @@
+pub mod Inversion
+pub mod Placing
+pub mod NumberedTuples
+pub mod TypeMembers
+pub mod SymbolBlocks
+pub mod Values
+pub mod Entries
+pub mod TermPlaces
+pub mod FormulaParts
+pub mod NextTuple
+pub mod Satisfied
+pub mod StatedParts
+pub mod Counting
+pub mod FitTables
+pub mod WellFormed
+pub mod SampleFacts

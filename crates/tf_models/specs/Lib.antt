@@ -1,0 +1,7 @@
+pub mod Assignment
+pub mod TupleNumbers
+pub mod Reading
+pub mod Fit
+pub mod Evaluation
+pub mod FirstFalse
+pub mod Samples

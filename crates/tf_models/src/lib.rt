@@ -1,0 +1,17 @@
+//! Finite structures of typed problems, and truth in them.
+#![tactic(auto)]
+
+mod blocks;
+mod env;
+mod first_false;
+mod holds;
+mod members;
+mod structure;
+#[cfg(test)]
+mod tests;
+mod types;
+mod value;
+mod well_formed;
+
+pub use env::Env;
+pub use structure::{TypedStructure, copy_table, copy_tables};
