@@ -1,0 +1,18 @@
+use enc_base::NoMemory;
+use thiserror::Error;
+
+/// Why there is no normal problem.
+#[derive(Debug, Drop, Error)]
+pub enum NormalError {
+    /// The normal problem has more than 4,194,304 nodes: this number, or 2^64 - 1 where it is larger.
+    #[error("too many nodes {nodes}")]
+    TooLarge { nodes: u64 },
+    #[error("no memory")]
+    Memory,
+}
+
+impl From<NoMemory> for NormalError {
+    fn from(_: NoMemory) -> Self {
+        NormalError::Memory
+    }
+}
