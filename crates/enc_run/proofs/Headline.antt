@@ -1,44 +1,56 @@
--- The headline: what was written has a finite model exactly when the file's typed problem has one.
-use Rattle.std.proofs.Common.{◌≡◌, ◌≤◌, ◌∙◌, ◌&&◌, ℕ, Bool, true, false, List, [], ◌∷◌, length, Ok, refl, sym, ap, subst, codes, inl, inr, arith}
-use Rattle.std.specs.Prelude.{◌↔◌, Option, nat_le}
-use Rattle.std.specs.List.{list_all}
-use Rattle.std.proofs.lemmas.Bool.Decides.{leb_tells}
+-- The headline: what was written has a finite model exactly when the problem has a finite typed one.
+use Rattle.std.proofs.Common.{◌≡◌, ◌≤◌, ◌++◌, ◌∙◌, ℕ, true, List, [], ◌∷◌, Result, Ok, Err, refl, sym, ap, subst, codes, arith}
+use Rattle.std.specs.Prelude.{◌↔◌, ◌^◌, ◌&&◌, Bool, false, Option}
+use Rattle.std.specs.List.{AllByRecursion, list_all}
 use Rattle.std.specs.Io.KnownBytes.{Appends}
 use Rattle.tptp_words.specs.Text.{AllPass, not_feed}
 use Rattle.tptp_syntax.specs.declared.entry.File.{File}
 use Rattle.tptp_syntax.specs.Files.{Spells, Verdict}
 use Rattle.tptp_syntax.proofs.FileFacts.{file_facts}
-use Rattle.tf_core.specs.TypedTables as typed
+use Rattle.tptp_syntax.proofs.OneAnswer.{one_file}
+use Rattle.tf_check.specs.Limits.{IsWithin}
+use Rattle.tf_check.specs.Typing.{IsTyped}
+use Rattle.tf_core.specs.declared.problem.Problem.{Problem}
+use Rattle.tf_core.specs.Sound.{IsSound}
+use Rattle.tf_core.specs.TypedTables.{TypedTables, AreModel, AreNormalModel, HasFiniteModel}
+use Rattle.tf_nnf.specs.NormalForm.{normal_of}
+use Rattle.tf_nnf.specs.Extension.{without_fresh}
+use Rattle.tf_nnf.proofs.Models.{model_has_one_extension, extension_is_model, reduct_is_model}
 use Rattle.fof_models.specs.declared.problem.FofProblem.{FofProblem}
 use Rattle.fof_models.specs.Models as untyped
-use Rattle.fof_models.specs.Sound.{IsSound}
+use Rattle.fof_models.specs.Sound as untyped_sound
 use Rattle.fof_text.specs.Names.{chosen_names}
 use Rattle.fof_text.specs.States.{States, TextHasFiniteModel, AreNamed}
 use Rattle.fof_text.specs.Written.{text_of}
-use Rattle.tptp_syntax.proofs.OneAnswer.{one_file}
 use Rattle.fof_text.proofs.Stated.{states, comments_change_nothing}
 use Rattle.fof_text.proofs.Together.{models_together}
-use Rattle.enc_run.specs.Individuals.{typed_problem}
-use Rattle.enc_run.specs.Thin.{is_thin, is_thin_file, problem_of, most_thin_bytes}
+use Rattle.enc_run.specs.Plain.{is_plain}
+use Rattle.enc_run.specs.Erased.{erased}
 use Rattle.enc_run.specs.Output.{first_line, output_of}
-use Rattle.enc_run.specs.Refusals.{IsBuilt, IsEncodedAs}
-use Rattle.enc_run.specs.Work.{Change, Work}
-use Rattle.enc_run.specs.Ending.{Ended}
+use Rattle.enc_run.specs.Refusals.{HasProblem, IsEncodedAs, most_nodes, nodes_of}
+use Rattle.tf_check.specs.Writable.{HasWritableNames}
+use Rattle.tf_check.proofs.FileGives.{typed-problem_of}
+use Rattle.tf_check.proofs.SoundFiles.{typed_sound}
+use Rattle.tf_check.proofs.WritableNames.{typed_names_are_writable}
+use Rattle.tf_nnf.proofs.SoundNormal.{normal_sound}
+use Rattle.enc_run.specs.Work.{Change, Work, IsTold}
+use Rattle.enc_run.specs.Ending.{OfText, EndsBy, Ended}
 use Rattle.enc_run.specs.Promises.{IsEncoded, Headline}
-use Rattle.enc_run.proofs.IndividualsModels.{typed_models_are_untyped_models}
+use Rattle.enc_run.proofs.ErasedModels.{plain_models_are_untyped_models}
+use Rattle.enc_run.proofs.ErasedSound.{IsSound-erased}
 use Rattle.enc_run.proofs.Readings.{told, whole}
-use Rattle.enc_run.proofs.ThinNamed.{thin_named}
-use Rattle.enc_run.proofs.ThinSound.{thin_sound}
+use Rattle.enc_run.proofs.PlainNormal.{is_plain_normal-normal_of}
+use Rattle.enc_run.proofs.WritableNames.{named_translation}
 
 all_pass : (bytes : List ℕ) → list_all not_feed bytes ≡ true → AllPass not_feed bytes
-all_pass [] h = tt
-all_pass (b ∷ bytes) h =
-    let parts = both (not_feed b) (list_all not_feed bytes) h in
+all_pass [] passed = tt
+all_pass (b ∷ bytes) passed =
+    let parts = both (not_feed b) (list_all not_feed bytes) passed in
     (parts.0, all_pass bytes parts.1)
   where
     both : (p q : Bool) → (p && q) ≡ true → (p ≡ true) × (q ≡ true)
-    both true q h = (refl, h)
-    both false q h = absurd cc
+    both true q passed = (refl, passed)
+    both false q passed = absurd cc
 
 -- the first line is a comment, so it changes nothing of what is stated
 output_states : (problem : FofProblem) → States (text_of (chosen_names problem.signature) problem) problem
@@ -51,72 +63,89 @@ output_states problem stated =
     comment : AllPass not_feed (codes " tfenc erase complete")
     comment = all_pass (codes " tfenc erase complete") refl
 
--- ---- files of the form that is built
+-- ---- what is known of the file and of the problem
 
 spells_of : (text : List ℕ) (file : File) → Verdict text (Ok file) → Spells text file
 spells_of text file verdict = (verdict.1.0, verdict.1.1, (400, verdict.1.2))
 
-thin_of : (text : List ℕ) (file : File) → IsBuilt file text → is_thin_file file ≡ true
-thin_of text file built = last (nat_le (length text) most_thin_bytes) (is_thin_file file) built.1
+-- every file that is spelled within the limits can be checked
+pub is_within : (text : List ℕ) (file : File) → Verdict text (Ok file) → IsWithin file
+is_within text file verdict =
+    let facts = file_facts text file (spells_of text file verdict) in
+    let nodes = facts.1 in
+    let bytes = verdict.0 in
+    record { nodes = omega arith; chains = facts.2 }
+
+-- the names of a text's problem can be written
+pub has_writable_names : (text : List ℕ) (problem : Problem) (has : HasProblem text problem) →
+    HasWritableNames problem
+has_writable_names text problem has =
+    typed_names_are_writable has.0 problem (file_facts text has.0 (spells_of text has.0 has.1)).0 has.2
+
+module _ (problem : Problem) (sound : IsSound problem) (writable : HasWritableNames problem)
+    (plain : is_plain problem ≡ true) (within : nodes_of problem ≤ most_nodes)
   where
-    last : (a b : Bool) → (a && b) ≡ true → b ≡ true
-    last true b h = h
-    last false b h = absurd cc
+    abbrev translation : FofProblem
+    translation = erased (normal_of problem)
 
-pub few_bytes : (text : List ℕ) (file : File) → length text ≤ most_thin_bytes → is_thin_file file ≡ true
-    → is_thin text file ≡ true
-few_bytes text file few thin =
-    ap (λ b. b && is_thin_file file) (elim (leb_tells (length text) most_thin_bytes) [
-      | inl small ↦ small.0
-      | inr large ↦ let many = large.1 in absurd (omega arith)
-    ]) ∙ thin
+    sound_translation : untyped_sound.IsSound translation
+    sound_translation =
+        let normal = normal_sound problem sound within in
+        IsSound-erased (normal_of problem) normal.signature normal.formulas
 
-pub built_sound : (text : List ℕ) (file : File) → IsBuilt file text → IsSound (problem_of file)
-built_sound text file built = thin_sound file (thin_of text file built)
+    stated : States (output_of translation) translation
+    stated =
+        output_states translation
+        (states (chosen_names translation.signature) translation sound_translation (named_translation problem writable sound_translation))
 
-pub built_named : (text : List ℕ) (file : File) → IsBuilt file text
-    → AreNamed (chosen_names (problem_of file).signature) (problem_of file)
-built_named text file built =
-    thin_named file (file_facts text file (spells_of text file built.0)).0 (thin_of text file built)
+    typed_and_untyped : ((t : TypedTables) × AreNormalModel (normal_of problem) t) ↔ untyped.HasFiniteModel translation
+    typed_and_untyped =
+        let normal = normal_sound problem sound within in
+        plain_models_are_untyped_models (normal_of problem) normal.signature normal.formulas
+        (is_plain_normal-normal_of problem plain)
 
--- ---- models of the file and of the text
+    typed_model : TextHasFiniteModel (output_of translation) → HasFiniteModel problem
+    typed_model has =
+        let model = models_together (output_of translation) has.problem translation has.states stated has.model in
+        let normal = typed_and_untyped.1 model in
+        (without_fresh (normal_of problem) normal.0, reduct_is_model problem normal.0 sound normal.1)
 
-module _ (text : List ℕ) (file : File) (built : IsBuilt file text) where
-  stated : States (output_of (problem_of file)) (problem_of file)
-  stated =
-      output_states (problem_of file)
-      (states (chosen_names (problem_of file).signature) (problem_of file) (built_sound text file built)
-      (built_named text file built))
-
-  together : typed.HasFiniteModel (typed_problem (problem_of file)) ↔ untyped.HasFiniteModel (problem_of file)
-  together = typed_models_are_untyped_models (problem_of file) (built_sound text file built)
-
-  typed_model : TextHasFiniteModel (output_of (problem_of file)) → typed.HasFiniteModel (typed_problem (problem_of file))
-  typed_model has =
-      together.1 (models_together (output_of (problem_of file)) has.problem (problem_of file) has.states stated has.model)
-
-  text_model : typed.HasFiniteModel (typed_problem (problem_of file)) → TextHasFiniteModel (output_of (problem_of file))
-  text_model has = record {
-    problem = problem_of file;
-    states = stated;
-    model = together.0 has;
-  }
+    text_model : HasFiniteModel problem → TextHasFiniteModel (output_of translation)
+    text_model has =
+        let extension = model_has_one_extension.some problem has.0 has.1 in
+        let normal =
+        extension_is_model problem has.0 extension.0 sound has.1 extension.1 in
+        record {
+          problem = translation;
+          states = stated;
+          model = typed_and_untyped.0 (extension.0, normal);
+        }
 
 encoded : (text output : List ℕ) (out : Change (Option (List ℕ))) → IsEncodedAs output text
     → Appends out.before out.after output → IsEncoded text out
 encoded text output out is written =
-    let file = is.0 in
-    let spells = spells_of text file is.1.0 in
+    let problem = is.0 in
+    let has = is.1 in
+    let file = has.0 in
+    let spells = spells_of text file has.1 in
+    let sound = typed_sound file problem (is_within text file has.1) has.2 in
+    let writable = has_writable_names text problem has in
+    let down = typed_model problem sound writable is.2 is.3 in
+    let up = text_model problem sound writable is.2 is.3 in
     record {
       file = file;
       spells = spells;
       only_file = λ other spelled. one_file text other file spelled spells;
+      problem = problem;
+      typed = has.2;
+      only_problem = λ other typed.
+          typed-problem_of file other typed ∙ sym (typed-problem_of file problem has.2);
       output = output;
-      translated = is.2;
+      translated = is.4;
       written = written;
       models = (
-        λ m. typed_model text file is.1 (subst TextHasFiniteModel is.2 m),
-        λ m. subst TextHasFiniteModel (sym is.2) (text_model text file is.1 m),
+        λ m. down (subst TextHasFiniteModel is.4 m),
+        λ m. subst TextHasFiniteModel (sym is.4) (up m),
       );
     }
 

@@ -1,19 +1,21 @@
 -- What a run promises follows from how it ended.
-use Rattle.std.proofs.Common.{◌≡◌, ◌⊎◌, ◌++◌, inl, inr, ℕ, List, Option, Some, None, Result, Ok, Err, refl, sym, ap, subst, ◌∙◌, is_some, arith}
+use Rattle.std.proofs.Common.{◌≡◌, ◌⊎◌, ◌++◌, inl, inr, ℕ, List, [], Option, Some, None, Result, Ok, Err, refl, sym, ap, subst, ◌∙◌, is_some, arith}
 use Rattle.std.specs.Io.KnownBytes.{Appends, Keeps}
 use Rattle.std.proofs.lemmas.Option.{same_Some}
 use Rattle.enc_base.specs.Library.{Files, Holds, IsHeld}
 use Rattle.enc_base.specs.Sink.{AppendsPrefix}
-use Rattle.tptp_syntax.specs.declared.entry.File.{File}
 use Rattle.tptp_syntax.specs.declared.error.ReadError.{ReadError}
 use Rattle.tptp_syntax.specs.declared.error.ReadError.TheVariants as reading
-use Rattle.tptp_syntax.specs.Files.{Verdict}
-use Rattle.enc_run.specs.Refusals.{IsRefusedBy, IsUnbuilt, IsEncodedAs, status_of, number_of}
+use Rattle.tf_check.specs.declared.error.TypeError.{TypeError}
+use Rattle.tf_check.specs.declared.error.TypeError.TheVariants as typing
+use Rattle.enc_run.specs.Refusals.{IsRefusedBy, IsUnbuilt, IsEncodedAs, status_of, reading_status, typing_status, number_of}
 use Rattle.enc_run.specs.Note.{program_word, line, not_built, cannot_read, cannot_write, no_memory}
-use Rattle.enc_run.specs.Work.{Change, Work, Rises, OwnRises, IsTold}
+use Rattle.enc_run.specs.Work.{Change, Work, Rises, OwnRises, IsTold, HasText}
 use Rattle.enc_run.specs.Ending.{OfText, EndsBy, status_at, Noted, Ended}
 use Rattle.enc_run.specs.Promises.{IsOrMemory, Complete, NotBuiltExactly, RefusedExactly, UnreadOnly, UnwrittenOnly, IsStatus, OutHolds, NotesHold, Adds}
 use Rattle.enc_run.specs.declared.job.Job.{Job}
+use Rattle.enc_run.specs.declared.refusal.Refusal.{Refusal}
+use Rattle.enc_run.specs.declared.refusal.Refusal.TheVariants.{Reading, Typing, TooManyNodes}
 use Rattle.enc_run.specs.declared.stop.Stop.{Stop}
 use Rattle.enc_run.specs.declared.stop.Stop.TheVariants.{NotBuilt, Unread, Refused, Unwritten, Memory}
 use Rattle.enc_run.proofs.Exclusive.{refused_not_unbuilt, refused_not_encoded, unbuilt_not_encoded, refused_once}
@@ -50,21 +52,40 @@ no_job w job none some = cc
 
 -- ---- statuses
 
-pub refusal_statuses : (reason : ReadError) → (status_of reason ≡ 1) ⊎ (status_of reason ≡ 5)
-refusal_statuses (reading.TooDeep at) = inr refl
-refusal_statuses (reading.TooLong bytes) = inr refl
-refusal_statuses (reading.BadByte at) = inl refl
-refusal_statuses (reading.Unclosed at) = inl refl
-refusal_statuses (reading.Syntax at) = inl refl
-refusal_statuses (reading.Language at) = inl refl
-refusal_statuses (reading.Role at) = inl refl
-refusal_statuses (reading.Number at) = inl refl
-refusal_statuses (reading.DistinctObject at) = inl refl
-refusal_statuses (reading.Include at) = inl refl
-refusal_statuses reading.Memory = inl refl
+reading_statuses : (reason : ReadError) → (reading_status reason ≡ 1) ⊎ (reading_status reason ≡ 5)
+reading_statuses (reading.TooDeep at) = inr refl
+reading_statuses (reading.TooLong bytes) = inr refl
+reading_statuses (reading.BadByte at) = inl refl
+reading_statuses (reading.Unclosed at) = inl refl
+reading_statuses (reading.Syntax at) = inl refl
+reading_statuses (reading.Language at) = inl refl
+reading_statuses (reading.Role at) = inl refl
+reading_statuses (reading.Number at) = inl refl
+reading_statuses (reading.DistinctObject at) = inl refl
+reading_statuses (reading.Include at) = inl refl
+reading_statuses reading.Memory = inl refl
+
+typing_statuses : (reason : TypeError) → (typing_status reason ≡ 1) ⊎ (typing_status reason ≡ 5)
+typing_statuses (typing.TooManySymbols count) = inr refl
+typing_statuses (typing.Redeclared entry name) = inl refl
+typing_statuses (typing.BadDeclaration entry) = inl refl
+typing_statuses (typing.UnknownType entry name) = inl refl
+typing_statuses (typing.FreeVariable entry name) = inl refl
+typing_statuses (typing.Arity entry name expected found) = inl refl
+typing_statuses (typing.Mismatch entry expected found) = inl refl
+typing_statuses (typing.NotATerm entry name) = inl refl
+typing_statuses (typing.NotAFormula entry name) = inl refl
+typing_statuses (typing.TypeQuantifier entry) = inl refl
+typing_statuses (typing.SecondConjecture entry) = inl refl
+typing_statuses typing.Memory = inl refl
+
+pub refusal_statuses : (reason : Refusal) → (status_of reason ≡ 1) ⊎ (status_of reason ≡ 5)
+refusal_statuses (Reading reason) = reading_statuses reason
+refusal_statuses (Typing reason) = typing_statuses reason
+refusal_statuses (TooManyNodes nodes) = inr refl
 
 -- a refusal has no status but 1 and 5
-not_refusal : (reason : ReadError) (status : ℕ) → status_of reason ≡ status
+not_refusal : (reason : Refusal) (status : ℕ) → status_of reason ≡ status
     → (status ≡ 1 → ⊥) → (status ≡ 5 → ⊥) → ⊥
 not_refusal reason status is no_one no_five = elim (refusal_statuses reason) [
   | inl one ↦ no_one (sym is ∙ one)
@@ -169,7 +190,7 @@ IsRefusal status = (status ≡ 1) ⊎ (status ≡ 5)
 
 only_refused : (w : Work) (end : End) → EndsBy w end → (job : Job) (text : List ℕ)
     → IsTold w job text → IsRefusal (status_at end)
-    → (reason : ReadError) × IsRefusedBy reason text × (status_of reason ≡ status_at end) × (end ≡ Err (Refused reason))
+    → (reason : Refusal) × IsRefusedBy reason text × (status_of reason ≡ status_at end) × (end ≡ Err (Refused reason))
 only_refused w (Err (Refused reason)) ends job text is_told is =
     (reason, told w (IsRefusedBy reason) job text ends.0 is_told, refl, refl)
 only_refused w (Ok done) ends job text is_told is = absurd (other is)
@@ -198,62 +219,59 @@ only_refused w (Err Memory) ends job text is_told is = absurd (other is)
     other (inl one) = omega arith
     other (inr five) = omega arith
 
-module _
-    (one_verdict : (text : List ℕ) (a b : Result File ReadError) → Verdict text a → Verdict text b → a ≡ b)
-  where
-    at_unbuilt : (w : Work) (end : End) → EndsBy w end → (job : Job) (text : List ℕ)
-        → IsTold w job text → (OwnRises w job.problem → ⊥) → IsUnbuilt text
-        → IsOrMemory 9 (status_at end)
-    at_unbuilt w (Ok done) ends job text is_told untroubled unbuilt =
-        absurd (unbuilt_not_encoded one_verdict text ends.0 unbuilt
-        (told w (IsEncodedAs ends.0) job text ends.1 is_told))
-    at_unbuilt w (Err NotBuilt) ends job text is_told untroubled unbuilt = inl refl
-    at_unbuilt w (Err (Unread name)) ends job text is_told untroubled unbuilt =
-        absurd (untroubled (troubled w name job text ends.0.0 ends.0.1 ends.0.2 ends.0.4 is_told))
-    at_unbuilt w (Err (Refused reason)) ends job text is_told untroubled unbuilt =
-        absurd (refused_not_unbuilt one_verdict text reason
-        (told w (IsRefusedBy reason) job text ends.0 is_told) unbuilt)
-    at_unbuilt w (Err Unwritten) ends job text is_told untroubled unbuilt =
-        absurd (unbuilt_not_encoded one_verdict text ends.0.0.0 unbuilt
-        (told w (IsEncodedAs ends.0.0.0) job text ends.0.0.1 is_told))
-    at_unbuilt w (Err Memory) ends job text is_told untroubled unbuilt = inr refl
+at_unbuilt : (w : Work) (end : End) → EndsBy w end → (job : Job) (text : List ℕ)
+    → IsTold w job text → (OwnRises w job.problem → ⊥) → IsUnbuilt text
+    → IsOrMemory 9 (status_at end)
+at_unbuilt w (Ok done) ends job text is_told untroubled unbuilt =
+    absurd (unbuilt_not_encoded text ends.0 unbuilt
+    (told w (IsEncodedAs ends.0) job text ends.1 is_told))
+at_unbuilt w (Err NotBuilt) ends job text is_told untroubled unbuilt = inl refl
+at_unbuilt w (Err (Unread name)) ends job text is_told untroubled unbuilt =
+    absurd (untroubled (troubled w name job text ends.0.0 ends.0.1 ends.0.2 ends.0.4 is_told))
+at_unbuilt w (Err (Refused reason)) ends job text is_told untroubled unbuilt =
+    absurd (refused_not_unbuilt text reason
+    (told w (IsRefusedBy reason) job text ends.0 is_told) unbuilt)
+at_unbuilt w (Err Unwritten) ends job text is_told untroubled unbuilt =
+    absurd (unbuilt_not_encoded text ends.0.0.0 unbuilt
+    (told w (IsEncodedAs ends.0.0.0) job text ends.0.0.1 is_told))
+at_unbuilt w (Err Memory) ends job text is_told untroubled unbuilt = inr refl
 
-    at_refused : (w : Work) (end : End) → EndsBy w end → (job : Job) (text : List ℕ)
-        (reason : ReadError) → IsTold w job text → (OwnRises w job.problem → ⊥)
-        → IsRefusedBy reason text → IsOrMemory (status_of reason) (status_at end)
-    at_refused w (Ok done) ends job text reason is_told untroubled refused =
-        absurd (refused_not_encoded one_verdict text reason ends.0 refused
-        (told w (IsEncodedAs ends.0) job text ends.1 is_told))
-    at_refused w (Err NotBuilt) ends job text reason is_told untroubled refused = elim ends.0 [
-      | inl none ↦ absurd (no_job w job none is_told.job_is)
-      | inr of ↦ absurd (refused_not_unbuilt one_verdict text reason refused
-          (told w IsUnbuilt job text of is_told))
-    ]
-    at_refused w (Err (Unread name)) ends job text reason is_told untroubled refused =
-        absurd (untroubled (troubled w name job text ends.0.0 ends.0.1 ends.0.2 ends.0.4 is_told))
-    at_refused w (Err (Refused other)) ends job text reason is_told untroubled refused =
-        inl (ap status_of (refused_once one_verdict text other reason
-        (told w (IsRefusedBy other) job text ends.0 is_told) refused))
-    at_refused w (Err Unwritten) ends job text reason is_told untroubled refused =
-        absurd (refused_not_encoded one_verdict text reason ends.0.0.0 refused
-        (told w (IsEncodedAs ends.0.0.0) job text ends.0.0.1 is_told))
-    at_refused w (Err Memory) ends job text reason is_told untroubled refused = inr refl
+at_refused : (w : Work) (end : End) → EndsBy w end → (job : Job) (text : List ℕ)
+    (reason : Refusal) → IsTold w job text → (OwnRises w job.problem → ⊥)
+    → IsRefusedBy reason text → IsOrMemory (status_of reason) (status_at end)
+at_refused w (Ok done) ends job text reason is_told untroubled refused =
+    absurd (refused_not_encoded text reason ends.0 refused
+    (told w (IsEncodedAs ends.0) job text ends.1 is_told))
+at_refused w (Err NotBuilt) ends job text reason is_told untroubled refused = elim ends.0 [
+  | inl none ↦ absurd (no_job w job none is_told.job_is)
+  | inr of ↦ absurd (refused_not_unbuilt text reason refused
+      (told w IsUnbuilt job text of is_told))
+]
+at_refused w (Err (Unread name)) ends job text reason is_told untroubled refused =
+    absurd (untroubled (troubled w name job text ends.0.0 ends.0.1 ends.0.2 ends.0.4 is_told))
+at_refused w (Err (Refused other)) ends job text reason is_told untroubled refused =
+    inl (ap status_of (refused_once text other reason
+    (told w (IsRefusedBy other) job text ends.0 is_told) refused))
+at_refused w (Err Unwritten) ends job text reason is_told untroubled refused =
+    absurd (refused_not_encoded text reason ends.0.0.0 refused
+    (told w (IsEncodedAs ends.0.0.0) job text ends.0.0.1 is_told))
+at_refused w (Err Memory) ends job text reason is_told untroubled refused = inr refl
 
-    complete : (w : Work) (end : End) → EndsBy w end → Complete w (status_at end)
-    complete w (Ok done) ends job text output is_told encoded untroubled written = inl refl
-    complete w (Err NotBuilt) ends job text output is_told encoded untroubled written = elim ends.0 [
-      | inl none ↦ absurd (no_job w job none is_told.job_is)
-      | inr of ↦ absurd (unbuilt_not_encoded one_verdict text output
-          (told w IsUnbuilt job text of is_told) encoded)
-    ]
-    complete w (Err (Unread name)) ends job text output is_told encoded untroubled written =
-        absurd (untroubled (troubled w name job text ends.0.0 ends.0.1 ends.0.2 ends.0.4 is_told))
-    complete w (Err (Refused reason)) ends job text output is_told encoded untroubled written =
-        absurd (refused_not_encoded one_verdict text reason output
-        (told w (IsRefusedBy reason) job text ends.0 is_told) encoded)
-    complete w (Err Unwritten) ends job text output is_told encoded untroubled written =
-        absurd (written ends.0.1)
-    complete w (Err Memory) ends job text output is_told encoded untroubled written = inr refl
+complete : (w : Work) (end : End) → EndsBy w end → Complete w (status_at end)
+complete w (Ok done) ends job text output is_told encoded untroubled written = inl refl
+complete w (Err NotBuilt) ends job text output is_told encoded untroubled written = elim ends.0 [
+  | inl none ↦ absurd (no_job w job none is_told.job_is)
+  | inr of ↦ absurd (unbuilt_not_encoded text output
+      (told w IsUnbuilt job text of is_told) encoded)
+]
+complete w (Err (Unread name)) ends job text output is_told encoded untroubled written =
+    absurd (untroubled (troubled w name job text ends.0.0 ends.0.1 ends.0.2 ends.0.4 is_told))
+complete w (Err (Refused reason)) ends job text output is_told encoded untroubled written =
+    absurd (refused_not_encoded text reason output
+    (told w (IsRefusedBy reason) job text ends.0 is_told) encoded)
+complete w (Err Unwritten) ends job text output is_told encoded untroubled written =
+    absurd (written ends.0.1)
+complete w (Err Memory) ends job text output is_told encoded untroubled written = inr refl
 
 -- ---- the notes
 
@@ -327,7 +345,7 @@ module _ (w : Work) (notes : Change (Option (List ℕ))) (notes_faults : Change 
 
   noted_refused : (end : End) → EndsBy w end → Noted end notes notes_faults → (job : Job)
       (text : List ℕ) → IsTold w job text → IsRefusal (status_at end) → (Rises notes_faults → ⊥)
-      → (reason : ReadError) × IsRefusedBy reason text × (status_of reason ≡ status_at end)
+      → (reason : Refusal) × IsRefusedBy reason text × (status_of reason ≡ status_at end)
       × ((rest : List ℕ)
       × Appends notes.before notes.after (program_word ++ (number_of reason ++ rest)))
   noted_refused end ends noted job text is_told is calm =
@@ -343,7 +361,6 @@ module _ (w : Work) (notes : Change (Option (List ℕ))) (notes_faults : Change 
 -- ---- all promises but the headline
 
 module _
-    (one_verdict : (text : List ℕ) (a b : Result File ReadError) → Verdict text a → Verdict text b → a ≡ b)
     (w : Work) (notes : Change (Option (List ℕ))) (notes_faults : Change ℕ) (status : ℕ)
     (ended : Ended w notes notes_faults status)
   where
@@ -351,18 +368,18 @@ module _
     at_status P holds = subst P ended.status_is holds
 
     pub is_complete : Complete w status
-    is_complete = at_status (Complete w) (complete one_verdict w ended.end ended.ends)
+    is_complete = at_status (Complete w) (complete w ended.end ended.ends)
 
     pub not_built_exactly : NotBuiltExactly w status
     not_built_exactly = at_status (NotBuiltExactly w) (record {
       at_words = at_words w ended.end ended.ends;
-      at_text = at_unbuilt one_verdict w ended.end ended.ends;
+      at_text = at_unbuilt w ended.end ended.ends;
       only = only_unbuilt w ended.end ended.ends;
     })
 
     pub refused_exactly : RefusedExactly w status
     refused_exactly = at_status (RefusedExactly w) (record {
-      at_text = at_refused one_verdict w ended.end ended.ends;
+      at_text = at_refused w ended.end ended.ends;
       only = λ job text is_told is.
           let refused = only_refused w ended.end ended.ends job text is_told is in
           (refused.0, refused.1, refused.2);

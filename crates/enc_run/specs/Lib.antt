@@ -1,7 +1,6 @@
-pub mod Thin
-pub mod ThinReading
-pub mod Variables
-pub mod Individuals
+pub mod Marks
+pub mod Plain
+pub mod Erased
 pub mod Output
 pub mod Refusals
 pub mod Job
@@ -10,3 +9,4 @@ pub mod Stop
 pub mod Work
 pub mod Ending
 pub mod Promises
+pub mod Parts

@@ -1,21 +1,24 @@
 -- What a run promises, one promise a definition. A text is told where the library tells its files.
-use Rattle.std.specs.Prelude.{◌≡◌, ◌⊎◌, ◌↔◌, ◌++◌, ℕ, List, Option, Some, None}
+use Rattle.std.specs.Prelude.{◌≡◌, ◌≤◌, ◌⊎◌, ◌↔◌, ◌++◌, ℕ, true, List, Option, Some, None, Ok}
 use Rattle.std.specs.Io.KnownBytes.{Appends, Keeps}
+use Rattle.enc_base.specs.Counts.{one_more}
 use Rattle.enc_base.specs.Library.{IsHeld}
 use Rattle.enc_base.specs.Sink.{AppendsPrefix}
 use Rattle.tptp_syntax.specs.declared.entry.File.{File}
 use Rattle.tptp_syntax.specs.Files.{Spells}
+use Rattle.tf_check.specs.Typing.{IsTyped}
+use Rattle.tf_nnf.specs.NormalForm.{normal_of}
+use Rattle.tf_core.specs.declared.problem.Problem.{Problem}
 use Rattle.tf_core.specs.TypedTables.{HasFiniteModel}
 use Rattle.fof_text.specs.States.{TextHasFiniteModel}
-use Rattle.enc_run.specs.Thin.{problem_of}
-use Rattle.enc_run.specs.Individuals.{typed_problem}
+use Rattle.enc_run.specs.Erased.{erased}
 use Rattle.enc_run.specs.Output.{output_of}
 use Rattle.enc_run.specs.Refusals.{IsRefusedBy, IsUnbuilt, IsEncodedAs, status_of, number_of}
 use Rattle.enc_run.specs.Note.{program_word, line, not_built, cannot_read, cannot_write, no_memory}
-use Rattle.enc_run.specs.Work.{Change, Work, Rises, OwnRises, IsTold}
+use Rattle.enc_run.specs.Work.{Change, Work, Rises, OwnRises, IsTold, HasText}
 use Rattle.enc_run.specs.Ending.{OfText}
 use Rattle.enc_run.specs.declared.job.Job.{Job}
-use Rattle.tptp_syntax.specs.declared.error.ReadError.{ReadError}
+use Rattle.enc_run.specs.declared.refusal.Refusal.{Refusal}
 
 -- the status is want of memory, which may stand in the place of any other, or this one
 abbrev pub IsOrMemory : ℕ → ℕ → Type 0
@@ -23,16 +26,20 @@ IsOrMemory wanted status = (status ≡ wanted) ⊎ (status ≡ 8)
 
 -- ---- the headline
 
--- The text spells one file. What was written is the text of the file's problem, and that text has a
--- finite model exactly when the file's typed problem has one.
+-- The text spells one file, which is well typed with one problem. What was written is the text of
+-- the problem's encoding, and that text has a finite model exactly when the problem has a finite
+-- typed model.
 pub record IsEncoded (text : List ℕ) (out : Change (Option (List ℕ))) : Type 0 where
   pub file : File
   pub spells : Spells text file
   pub only_file : (other : File) → Spells text other → other ≡ file
+  pub problem : Problem
+  pub typed : IsTyped file problem
+  pub only_problem : (other : Problem) → IsTyped file other → other ≡ problem
   pub output : List ℕ
-  pub translated : output ≡ output_of (problem_of file)
+  pub translated : output ≡ output_of (erased (normal_of problem))
   pub written : Appends out.before out.after output
-  pub models : TextHasFiniteModel output ↔ HasFiniteModel (typed_problem (problem_of file))
+  pub models : TextHasFiniteModel output ↔ HasFiniteModel problem
 
 abbrev pub Headline : Work → ℕ → Type 0
 Headline w status =
@@ -46,7 +53,7 @@ Complete w status =
 
 -- ---- the causes
 
--- 9 comes exactly where the words give no job, or the text's file isn't of the form that is built
+-- 9 comes exactly where the words give no job, or the text's problem isn't plain
 pub record NotBuiltExactly (w : Work) (status : ℕ) : Type 0 where
   pub at_words : w.job ≡ None → IsOrMemory 9 status
   pub at_text : (job : Job) (text : List ℕ) → IsTold w job text → (OwnRises w job.problem → ⊥)
@@ -55,11 +62,11 @@ pub record NotBuiltExactly (w : Work) (status : ℕ) : Type 0 where
 
 -- 1 and 5 come exactly where the text is refused, by the status of the reason
 pub record RefusedExactly (w : Work) (status : ℕ) : Type 0 where
-  pub at_text : (job : Job) (text : List ℕ) (reason : ReadError) → IsTold w job text
+  pub at_text : (job : Job) (text : List ℕ) (reason : Refusal) → IsTold w job text
       → (OwnRises w job.problem → ⊥) → IsRefusedBy reason text
       → IsOrMemory (status_of reason) status
   pub only : (job : Job) (text : List ℕ) → IsTold w job text → (status ≡ 1) ⊎ (status ≡ 5)
-      → (reason : ReadError) × IsRefusedBy reason text × (status_of reason ≡ status)
+      → (reason : Refusal) × IsRefusedBy reason text × (status_of reason ≡ status)
 
 -- 6 comes only where the library's faults rose, and the file's own where the library holds it
 abbrev pub UnreadOnly : Work → ℕ → Type 0
@@ -106,6 +113,6 @@ pub record NotesHold (w : Work) (notes : Change (Option (List ℕ))) (notes_faul
   pub memory : status ≡ 8 → (Rises notes_faults → ⊥) → Adds notes no_memory
   pub refused : (job : Job) (text : List ℕ) → IsTold w job text → (status ≡ 1) ⊎ (status ≡ 5)
       → (Rises notes_faults → ⊥)
-      → (reason : ReadError) × IsRefusedBy reason text × (status_of reason ≡ status)
+      → (reason : Refusal) × IsRefusedBy reason text × (status_of reason ≡ status)
       × ((rest : List ℕ)
       × Appends notes.before notes.after (program_word ++ (number_of reason ++ rest)))

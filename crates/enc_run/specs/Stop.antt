@@ -7,6 +7,6 @@ use Rattle.enc_run.specs.declared.stop.Stop.TheVariants.{NotBuilt, Unread, Refus
 abbrev pub status_of : Stop → ℕ
 status_of NotBuilt = 9
 status_of (Unread name) = 6
-status_of (Refused reason) = refusals.status_of reason
+status_of (Refused refusal) = refusals.status_of refusal
 status_of Unwritten = 7
 status_of Memory = 8

@@ -4,15 +4,17 @@
 mod job;
 mod notes;
 mod output;
+mod plain;
 mod problem;
+mod refusal;
 mod stop;
 #[cfg(test)]
 mod tests;
 mod text;
-mod thin;
 mod top;
 
 pub use job::Job;
+pub use refusal::Refusal;
 pub use stop::Stop;
 pub use text::Text;
 pub use top::run;

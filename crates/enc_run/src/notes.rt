@@ -4,11 +4,12 @@ ghost use Rattle.std.specs.Prelude.{◌≡◌, ◌≤◌, ◌++◌, ℕ, List, O
 ghost use Rattle.std.specs.Io.KnownBytes.{Appends};
 ghost use Rattle.enc_base.specs.Counts.{Rose};
 ghost use Rattle.enc_run.specs.Note.{Notes, line, not_built, cannot_read, cannot_write, no_memory, program_word};
-ghost use Rattle.enc_run.specs.Refusals.{number_of};
+ghost use Rattle.enc_run.specs.Refusals.{number_of, reading_number, typing_number};
 
-use crate::Stop;
+use crate::{Refusal, Stop};
 use enc_base::{Failed, Sink};
 use std::alloc::Global;
+use tf_check::TypeError;
 use tptp_syntax::ReadError;
 
 // Writes two pieces.
@@ -59,9 +60,8 @@ fn write_unread<E: Sink>(name: &[u8], notes: &mut E) -> Result<(), Failed>
     write_both(name, b"\n", notes)
 }
 
-#[tactic(auto, unfolding(crate::specs::Refusals::number_of))]
-fn number_of(reason: &ReadError) -> &'static [u8]
-    ensures { result.now ≡ number_of reason.now }
+fn reading_number(reason: &ReadError) -> &'static [u8]
+    ensures { result.now ≡ reading_number reason.now }
 {
     match reason {
         ReadError::BadByte { .. } => b"1 ",
@@ -78,23 +78,53 @@ fn number_of(reason: &ReadError) -> &'static [u8]
     }
 }
 
+fn typing_number(reason: &TypeError) -> &'static [u8]
+    ensures { result.now ≡ typing_number reason.now }
+{
+    match reason {
+        TypeError::Redeclared { .. } => b"11 ",
+        TypeError::BadDeclaration { .. } => b"12 ",
+        TypeError::UnknownType { .. } => b"13 ",
+        TypeError::FreeVariable { .. } => b"14 ",
+        TypeError::Arity { .. } => b"15 ",
+        TypeError::Mismatch { .. } => b"16 ",
+        TypeError::NotATerm { .. } => b"17 ",
+        TypeError::NotAFormula { .. } => b"18 ",
+        TypeError::TypeQuantifier { .. } => b"19 ",
+        TypeError::SecondConjecture { .. } => b"20 ",
+        TypeError::TooManySymbols { .. } => b"21 ",
+        TypeError::Memory => b"",
+    }
+}
+
+#[tactic(auto, unfolding(crate::specs::Refusals::number_of))]
+fn number_of(refusal: &Refusal) -> &'static [u8]
+    ensures { result.now ≡ number_of refusal.now }
+{
+    match refusal {
+        Refusal::Reading(reason) => reading_number(reason),
+        Refusal::Typing(reason) => typing_number(reason),
+        Refusal::TooManyNodes { .. } => b"22 ",
+    }
+}
+
 // The text of a refusal, or nothing where there is no memory for it.
-fn message(alloc: Global, reason: &ReadError) -> String {
-    match reason.to_string(alloc) {
+fn message(alloc: Global, refusal: &Refusal) -> String {
+    match refusal.to_string(alloc) {
         Ok(text) => text,
         Err(_) => String::new(alloc),
     }
 }
 
-fn write_refusal<E: Sink>(alloc: Global, reason: &ReadError, notes: &mut E) -> Result<(), Failed>
+fn write_refusal<E: Sink>(alloc: Global, refusal: &Refusal, notes: &mut E) -> Result<(), Failed>
     ensures ok { OnOk result ((rest : List ℕ)
-        × Appends (E.bytes notes.old) (E.bytes notes.new) (program_word ++ (number_of reason.now ++ rest))) }
+        × Appends (E.bytes notes.old) (E.bytes notes.new) (program_word ++ (number_of refusal.now ++ rest))) }
     ensures failed { OnErr result (Rose (E.faults notes.old) (E.faults notes.new)) }
     ensures later { E.faults notes.old ≤ E.faults notes.new }
 {
-    let text = message(alloc, reason);
+    let text = message(alloc, refusal);
     write_program_word(notes)?;
-    notes.write(number_of(reason))?;
+    notes.write(number_of(refusal))?;
     match write_both(text.as_bytes(), b"\n", notes) {
         Ok(()) => Ok(()),
         Err(_) => Err(Failed),
@@ -129,7 +159,7 @@ fn try_note<E: Sink>(alloc: Global, stop: &Stop, notes: &mut E) -> Result<(), Fa
     match stop {
         Stop::NotBuilt => write_line(not_built(), notes),
         Stop::Unread(name) => write_unread(name.as_str().as_bytes(), notes),
-        Stop::Refused(reason) => write_refusal(alloc, reason, notes),
+        Stop::Refused(refusal) => write_refusal(alloc, refusal, notes),
         Stop::Unwritten => write_line(cannot_write(), notes),
         Stop::Memory => write_line(no_memory(), notes),
     }

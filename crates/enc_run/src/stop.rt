@@ -1,9 +1,7 @@
 ghost use Rattle.std.specs.Prelude.{◌≡◌};
 ghost use Rattle.enc_run.specs.Stop as spec;
-ghost use Rattle.enc_run.specs.Refusals as refusals;
 
-use crate::Text;
-use tptp_syntax::ReadError;
+use crate::{Refusal, Text};
 
 /// How a run ends early, with what its note needs.
 #[derive(Debug, Drop)]
@@ -13,22 +11,11 @@ pub enum Stop {
     /// The named file could not be read.
     Unread(Text),
     /// The problem is refused.
-    Refused(ReadError),
+    Refused(Refusal),
     /// The output could not be written.
     Unwritten,
     /// Want of memory.
     Memory,
-}
-
-// The exit status of a refusal: 5 where a limit is passed, and 1 otherwise.
-fn refusal_status(reason: &ReadError) -> u8
-    ensures { result ≡ refusals.status_of reason.now }
-{
-    match reason {
-        ReadError::TooDeep { .. } => 5,
-        ReadError::TooLong { .. } => 5,
-        _ => 1,
-    }
 }
 
 impl Stop {
@@ -39,7 +26,7 @@ impl Stop {
         match self {
             Stop::NotBuilt => 9,
             Stop::Unread(_) => 6,
-            Stop::Refused(reason) => refusal_status(reason),
+            Stop::Refused(refusal) => refusal.status(),
             Stop::Unwritten => 7,
             Stop::Memory => 8,
         }

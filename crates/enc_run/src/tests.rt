@@ -40,54 +40,43 @@ fn see(alloc: Global, text: &str, line: &str, most: usize, failing: &[u64]) -> R
 const ENCODE: &str = "encode p --scheme erase";
 
 #[test]
-fn problems_of_the_form_are_written(rt: HostRuntime) -> Result<(), Fail> {
-    for (text, output) in [
-        ("", "% tfenc erase complete\n"),
+fn plain_problems_are_written(rt: HostRuntime) -> Result<(), Fail> {
+    for (text, formulas) in [
+        ("", ""),
         (
             "fof(one,axiom,![X,Y]: X = Y).",
-            "% tfenc erase complete\nfof(one,axiom,![X0]: ![X1]: X0 = X1).\n",
+            "fof(one,axiom,![X0]: ![X1]: X0 = X1).\n",
+        ),
+        ("fof(a,axiom,~ (p & q)).", "fof(a,axiom,(~p | ~q)).\n"),
+        (
+            "fof(g,conjecture,p => q).",
+            "fof(g,negated_conjecture,(p & ~q)).\n",
+        ),
+        (
+            "fof(x,axiom,a <~> b).",
+            "fof(x,axiom,((a | b) & (~a | ~b))).\n",
+        ),
+        (
+            "fof(q,axiom,p('abc') & p(abc) & 'A b').",
+            "fof(q,axiom,(p(abc) & p(abc) & 'A b')).\n",
         ),
         (
             "fof(two,axiom,![X]: ![X]: p(X)). tff(c,lemma,d = e).",
-            "% tfenc erase complete\nfof(two,axiom,![X0]: ![X1]: p(X1)).\nfof(c,axiom,d = e).\n",
+            "fof(two,axiom,![X0]: ![X1]: p(X1)).\nfof(c,axiom,d = e).\n",
         ),
-        (
-            "fof('in between',hypothesis,![X]: q(f(X),'abc','A b')).",
-            "% tfenc erase complete\nfof('in between',axiom,![X0]: q(f(X0),abc,'A b')).\n",
-        ),
+        ("tff(c,type,c: $i). tff(d,type,c: $i).", ""),
     ] {
         let seen = see(rt.alloc(), text, ENCODE, 1000, &[])?;
         assert_eq!(rt; seen.status, 0, "at {text}");
-        assert_eq!(rt; seen.out.as_slice(), output.as_bytes(), "at {text}");
+        let wanted = format!(in rt.alloc(); "% tfenc erase complete\n{formulas}")?;
+        assert_eq!(rt; seen.out.as_slice(), wanted.as_bytes(), "at {text}");
         assert!(rt; seen.notes.is_empty());
     }
     Ok(())
 }
 
 #[test]
-fn other_problems_are_not_built(rt: HostRuntime) -> Result<(), Fail> {
-    for text in [
-        "fof(x,axiom,p(X)).",
-        "fof(a,axiom,p => q).",
-        "fof(x,axiom,~p).",
-        "fof(x,axiom,a | b).",
-        "fof(x,axiom,?[X]: p(X)).",
-        "fof(x,conjecture,p).",
-        "tff(x,axiom,![X: $i]: p(X)).",
-        "tff(c,type,c: $i).",
-        "fof(x,axiom,p(c)). fof(y,axiom,c).",
-        "fof(x,axiom,p(c)). fof(y,axiom,p(c,c)).",
-    ] {
-        let seen = see(rt.alloc(), text, ENCODE, 1000, &[])?;
-        assert_eq!(rt; seen.status, 9, "at {text}");
-        assert_eq!(rt; seen.notes.as_slice(), b"tfenc: not built\n".as_slice());
-        assert!(rt; seen.out.is_empty());
-    }
-    Ok(())
-}
-
-#[test]
-fn what_stops_a_run_is_noted(rt: HostRuntime) -> Result<(), Fail> {
+fn refusals_are_noted(rt: HostRuntime) -> Result<(), Fail> {
     for (text, line, status, note) in [
         (
             "fof(x,axiom,a & b | c).",
@@ -101,9 +90,70 @@ fn what_stops_a_run_is_noted(rt: HostRuntime) -> Result<(), Fail> {
         ("fof(x,unknown,p).", ENCODE, 1, "tfenc: 6 role at 6\n"),
         ("fof(x,axiom,p(1)).", ENCODE, 1, "tfenc: 7 number at 14\n"),
         ("include('a').", ENCODE, 1, "tfenc: 9 include at 0\n"),
-        ("", "encode q --scheme erase", 6, "tfenc: cannot read q\n"),
+        (
+            "tff(a,type,a: $tType). tff(b,type,a: $i).",
+            ENCODE,
+            1,
+            "tfenc: 11 redeclared a in entry 1\n",
+        ),
+        (
+            "tff(f,type,f: $o > $i).",
+            ENCODE,
+            1,
+            "tfenc: 12 bad declaration in entry 0\n",
+        ),
+        (
+            "tff(c,type,c: nat).",
+            ENCODE,
+            1,
+            "tfenc: 13 unknown type nat in entry 0\n",
+        ),
+        (
+            "fof(x,axiom,p(X)).",
+            ENCODE,
+            1,
+            "tfenc: 14 free variable X in entry 0\n",
+        ),
+        (
+            "fof(x,axiom,p(c) & p(c,c)).",
+            ENCODE,
+            1,
+            "tfenc: 15 arity of p in entry 0, expected 1, found 2\n",
+        ),
+        (
+            "tff(a,type,a: $tType). tff(c,type,c: a). tff(x,axiom,![X]: X = c).",
+            ENCODE,
+            1,
+            "tfenc: 16 type mismatch in entry 2\n",
+        ),
+        (
+            "fof(x,axiom,p & q(p)).",
+            ENCODE,
+            1,
+            "tfenc: 17 not a term p in entry 0\n",
+        ),
+        (
+            "fof(x,axiom,q(f) & f).",
+            ENCODE,
+            1,
+            "tfenc: 18 not a formula f in entry 0\n",
+        ),
+        (
+            "tff(x,axiom,?[A: $tType]: p).",
+            ENCODE,
+            1,
+            "tfenc: 19 type quantifier in entry 0\n",
+        ),
+        (
+            "fof(x,conjecture,p). fof(y,conjecture,q).",
+            ENCODE,
+            1,
+            "tfenc: 20 second conjecture in entry 1\n",
+        ),
+        ("tff(a,type,a: $tType).", ENCODE, 9, "tfenc: not built\n"),
         ("", "encode p", 9, "tfenc: not built\n"),
-        ("", "paint p --scheme erase", 9, "tfenc: not built\n"),
+        ("", "encode p --scheme guards", 9, "tfenc: not built\n"),
+        ("", "encode q --scheme erase", 6, "tfenc: cannot read q\n"),
     ] {
         let seen = see(rt.alloc(), text, line, 1000, &[])?;
         assert_eq!(rt; seen.status, status, "at {text}");

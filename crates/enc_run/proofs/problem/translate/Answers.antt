@@ -1,25 +1,19 @@
-use Rattle.std.proofs.Common.{◌∙◌, sym, subst}
-use Rattle.fof_models.specs.declared.problem.FofProblem.{FofProblem}
-use Rattle.fof_models.specs.Sound.{IsSound}
-use Rattle.fof_text.specs.Names.{chosen_names}
-use Rattle.fof_text.specs.States.{AreNamed}
-use Rattle.enc_run.specs.Thin.{is_thin_file, problem_of}
-use Rattle.enc_run.specs.Refusals.{IsBuilt}
-use Rattle.enc_run.proofs.ThinTerms.{only_if-some}
-use Rattle.enc_run.proofs.Headline.{few_bytes, built_sound, built_named}
+use Rattle.std.proofs.Common.{rules}
+use Rattle.tf_core.specs.Sound.{IsSoundNormal}
+use Rattle.std.proofs.Common.{subst, sym}
+use Rattle.tf_nnf.proofs.SoundNormal.{normal_sound}
+use Rattle.enc_run.proofs.Translated.{is_translation}
 use Rattle.enc_run.proofs.problem.translate.Goals as goal
 
-pub returns-in-Some-clause-translated : goal.returns-in-Some-clause-translated
-returns-in-Some-clause-translated c =
-    let text = c.args.text.now in
-    let file = c.in_ok-file.file in
-    let thin = only_if-some (is_thin_file file) (problem_of file) c.in-Some.problem (sym c.in-Some.is ∙ c.in-Ok.ensures) in
-    let built : IsBuilt file text = (c.in_ok-file.ensures.read, few_bytes text file c.if-text-gt-MOST_BYTES.false thin.0) in
-    record {
-      file = file;
-      built = built;
-      is = thin.1;
-      sound = subst IsSound (sym thin.1) (built_sound text file built);
-      named = subst (λ (p : FofProblem). AreNamed (chosen_names p.signature) p) (sym thin.1)
-          (built_named text file built);
-    }
+pub erase-requires : goal.erase-requires
+erase-requires c = record {
+  bounded =
+      (subst IsSoundNormal (sym c.in-Ok.ensures.exact)
+      (normal_sound c.in_ok-problem.problem c.in_ok-problem.ensures.problem.sound
+      c.in-Ok.ensures.within)).signature;
+}
+
+pub returns-in-Ok-erase-clause-translated : goal.returns-in-Ok-erase-clause-translated
+returns-in-Ok-erase-clause-translated c =
+    is_translation c.args.text.now c.in_ok-problem.problem c.in-Ok-erase.untyped
+    c.in_ok-problem.ensures.problem (search rules) c.in-Ok.ensures.within (search rules)

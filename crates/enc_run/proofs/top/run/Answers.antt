@@ -1,4 +1,3 @@
-use Rattle.tptp_syntax.proofs.Verdicts.{one_verdict}
 use Rattle.enc_run.proofs.Readings.{is_complete, refused_exactly, not_built_exactly, unread_only, unwritten_only, out_holds, notes_hold, status_is_one}
 use Rattle.enc_run.proofs.Headline.{headline}
 use Rattle.enc_run.proofs.top.run.Goals as goal
@@ -7,28 +6,28 @@ pub returns-clause-headline : goal.returns-clause-headline
 returns-clause-headline g c = headline _ _ _ _ c.ended.ensures
 
 pub returns-clause-complete : goal.returns-clause-complete
-returns-clause-complete g c = is_complete one_verdict _ _ _ _ c.ended.ensures
+returns-clause-complete g c = is_complete _ _ _ _ c.ended.ensures
 
 pub returns-clause-refused : goal.returns-clause-refused
-returns-clause-refused g c = refused_exactly one_verdict _ _ _ _ c.ended.ensures
+returns-clause-refused g c = refused_exactly _ _ _ _ c.ended.ensures
 
 pub returns-clause-not_built : goal.returns-clause-not_built
-returns-clause-not_built g c = not_built_exactly one_verdict _ _ _ _ c.ended.ensures
+returns-clause-not_built g c = not_built_exactly _ _ _ _ c.ended.ensures
 
 pub returns-clause-unread : goal.returns-clause-unread
-returns-clause-unread g c = unread_only one_verdict _ _ _ _ c.ended.ensures
+returns-clause-unread g c = unread_only _ _ _ _ c.ended.ensures
 
 pub returns-clause-unwritten : goal.returns-clause-unwritten
-returns-clause-unwritten g c = unwritten_only one_verdict _ _ _ _ c.ended.ensures
+returns-clause-unwritten g c = unwritten_only _ _ _ _ c.ended.ensures
 
 pub returns-clause-out : goal.returns-clause-out
-returns-clause-out g c = out_holds one_verdict _ _ _ _ c.ended.ensures
+returns-clause-out g c = out_holds _ _ _ _ c.ended.ensures
 
 pub returns-clause-notes : goal.returns-clause-notes
-returns-clause-notes g c = notes_hold one_verdict _ _ _ _ c.ended.ensures
+returns-clause-notes g c = notes_hold _ _ _ _ c.ended.ensures
 
 pub returns-clause-reads : goal.returns-clause-reads
 returns-clause-reads g c = c.ended.ensures.reads
 
 pub returns-clause-statuses : goal.returns-clause-statuses
-returns-clause-statuses g c = status_is_one one_verdict _ _ _ _ c.ended.ensures
+returns-clause-statuses g c = status_is_one _ _ _ _ c.ended.ensures
