@@ -1,10 +1,12 @@
 #!/usr/bin/env python3
-"""Measures the built program: bench/run.py [reading ..] [--most BYTES]
+"""Measures the built program: bench/run.py [reading|typing|encoding ..] [--most BYTES]
 
 Each text of a family is made at doubling sizes. For each the table gives the time per byte of input, the peak memory per
 byte, and the ratio to the time of `wc -w` on the same file, the least of three runs in one sitting. A text ends in an
 entry that is refused at the stage behind the one that is measured, so that only the stages up to it are run:
   reading    the last word is refused
+  typing     a second conjecture is refused
+  encoding   nothing is refused, and the output is thrown away
 Last come the greatest over the least time per byte of each family from 1 MiB on, and the targets that are missed."""
 import argparse
 import os
@@ -15,11 +17,11 @@ import tempfile
 import time
 
 HERE = os.path.dirname(os.path.abspath(__file__))
-TOP = os.path.dirname(HERE)
-TFENC = os.path.join(TOP, 'crates', 'tfenc', 'out', 'tfenc')
+TFENC = os.path.join(os.path.dirname(HERE), 'tfenc')
 MOST = 16777216
 
 BAD_WORD = 'fof(last,axiom,p & .\n'
+TWO_CONJECTURES = 'fof(a,conjecture,p).\nfof(b,conjecture,p).\n'
 
 
 def typed_lists(size):
@@ -49,6 +51,17 @@ def typed_lists(size):
     return '\n'.join(lines) + '\n'
 
 
+def axioms(size):
+    line = 'fof(monotone,axiom,![X,Y]: (less(X,succ(Y)) => (even(X) | ~ odd(Y,plus(X,Y))))).\n'
+    return line * (size // len(line))
+
+
+def deep(size):
+    unit = 'fof(d,axiom,' + '~ (' * 150 + 'p(X) & q' + ')' * 150 + ').\n'
+    unit = unit.replace('p(X)', 'p')
+    return unit * (size // len(unit))
+
+
 def chain(size):
     return 'fof(c,axiom,' + 'p & ' * (size // 4) + 'p).\n'
 
@@ -69,10 +82,12 @@ FAMILIES = {
     'reading': {
         'typed lists': typed_lists, 'chain': chain, 'list': wide, 'comment': comment, 'spaces': spaces,
     },
+    'typing': {'typed lists': typed_lists, 'axioms': axioms},
+    'encoding': {'axioms': axioms, 'deep': deep, 'wide': wide},
 }
-ENDS = {'reading': BAD_WORD}
-STATUSES = {'reading': 1}
-MEMORY = {'typed lists': 64}
+ENDS = {'reading': BAD_WORD, 'typing': TWO_CONJECTURES, 'encoding': ''}
+STATUSES = {'reading': 1, 'typing': 1, 'encoding': 0}
+MEMORY = {'reading': 64, 'typing': None, 'encoding': 200}
 MOST_OF_WC = {'reading': 25}
 
 
@@ -96,8 +111,7 @@ def main():
     parser.add_argument('--most', type=int, default=MOST)
     options = parser.parse_args()
     missed = []
-    subprocess.run([os.path.join(TOP, 'tfenc')], capture_output=True)  # so that the program is built
-    start, base, _ = best([TFENC])
+    base = measured([TFENC])[1]
     print(f'{"stage":9} {"family":12} {"bytes":>10} {"ns/byte":>9} {"memory/byte":>12} {"times wc -w":>12}')
     for stage in options.stages or FAMILIES:
         for family, make in FAMILIES[stage].items():
@@ -105,6 +119,8 @@ def main():
             size = min(options.most, MOST) // 32
             while size <= options.most:
                 end = ENDS[stage]
+                if stage == 'encoding' and family == 'wide' and size > MOST // 4:
+                    break
                 text = make(size - len(end) - 200) + end
                 with tempfile.NamedTemporaryFile('w', suffix='.p') as file:
                     file.write(text)
@@ -113,11 +129,11 @@ def main():
                     words, _, _ = best(['wc', '-w', file.name])
                 if status != STATUSES[stage]:
                     missed.append(f'{stage} {family} {len(text)}: status {status}')
-                per_byte = max(0, seconds - start) / len(text)
+                per_byte = seconds / len(text)
                 room = max(0, memory - base) / len(text)
-                if size >= 1 << 20:
+                if len(text) >= 1 << 20:
                     times.append(per_byte)
-                    if room > MEMORY.get(family, room):
+                    if MEMORY[stage] and room > MEMORY[stage]:
                         missed.append(f'{stage} {family} {len(text)}: {room:.1f} bytes of memory per byte')
                     if stage in MOST_OF_WC and seconds > MOST_OF_WC[stage] * words:
                         missed.append(f'{stage} {family} {len(text)}: {seconds / words:.1f} times wc -w')
