@@ -11,7 +11,7 @@ use tf_core::{Signature, Symbol};
 
 impl TypedStructure {
     /// The table of a symbol.
-    pub(crate) fn symbol_table(&self, f: u32) -> &[u32]
+    pub fn symbol_table(&self, f: u32) -> &[u32]
         requires { f < length self.now.symbols }
         ensures { result.now ≡ get_or self.now.symbols f [] }
     {
@@ -19,7 +19,7 @@ impl TypedStructure {
     }
 
     /// How many entries a block of a symbol's table has, or 2^64 - 1 where it has more.
-    pub(crate) fn block_length(&self, signature: &Signature, symbol: &Symbol, number: u64) -> u64
+    pub fn block_length(&self, signature: &Signature, symbol: &Symbol, number: u64) -> u64
         requires block { IsBlock signature.now self.now symbol.now number }
         ensures exact { result ≡ in_64_bits (length_at (tables self.now) symbol.now number) }
     {

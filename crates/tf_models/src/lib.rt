@@ -14,4 +14,5 @@ mod value;
 mod well_formed;
 
 pub use env::Env;
+pub use members::Members;
 pub use structure::{TypedStructure, copy_table, copy_tables};

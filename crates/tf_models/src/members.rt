@@ -6,14 +6,14 @@ ghost use Rattle.tf_models.specs.TupleNumbers.{tuple_at};
 /// Members for type variables: a list of them, or the number of their tuple among those of `count`
 /// numbers below `bound`, in lexicographic order.
 #[derive(Clone, Copy)]
-pub(crate) enum Members<'a> {
+pub enum Members<'a> {
     Listed(&'a [u32]),
     Numbered(u64, u32, u32),
 }
 
 impl Members<'_> {
     /// The i-th member.
-    pub(crate) fn at(self, i: u32) -> u32
+    pub fn at(self, i: u32) -> u32
         requires number { IsNumber self }
         requires within { i < length (listed self) }
         ensures { result ≡ get_or (listed self.entry) i 0 }

@@ -12,7 +12,7 @@ use tf_core::{Signature, Ty};
 impl TypedStructure {
     /// The member that a type is, under members for its variables.
     #[cycle(member_of)]
-    pub(crate) fn member_of(&self, signature: &Signature, ty: &Ty, members: Members) -> u32
+    pub fn member_of(&self, signature: &Signature, ty: &Ty, members: Members) -> u32
         requires fit { ConstructorsFit signature.now (tables self.now) }
         requires members { AreMembers self.now members }
         requires typed { IsType signature.now (length (listed members)) ty.now }
@@ -38,7 +38,7 @@ impl TypedStructure {
 
     /// The place of the tuple of members that types are, in a table with an entry for each tuple.
     #[cycle(member_of)]
-    pub(crate) fn place_of_types(
+    pub fn place_of_types(
         &self,
         signature: &Signature,
         types: &[Ty],
@@ -61,7 +61,7 @@ impl TypedStructure {
     }
 
     /// The size of the member that a type is.
-    pub(crate) fn size_of(&self, signature: &Signature, ty: &Ty, members: Members) -> u32
+    pub fn size_of(&self, signature: &Signature, ty: &Ty, members: Members) -> u32
         requires fit { ConstructorsFit signature.now (tables self.now) }
         requires members { AreMembers self.now members }
         requires typed { IsType signature.now (length (listed members)) ty.now }

@@ -1,0 +1,11 @@
+pub mod TypedAgreement
+pub mod TypedTabled
+pub mod TypedModels
+pub mod TupleOrder
+pub mod Tabling
+pub mod Counting
+pub mod BlockOrder
+pub mod MembersOfTypes
+pub mod CountedBlocks
+pub mod ClosedTypes
+pub mod SampleFacts

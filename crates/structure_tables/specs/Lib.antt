@@ -1,0 +1,6 @@
+pub mod TypedTabled
+pub mod Laws
+pub mod TupleOrder
+pub mod Sources
+pub mod EntryCounts
+pub mod Samples

@@ -1,0 +1,19 @@
+//! Structures that are given as functions, written as tables: what the tables are, and how they are made.
+#![tactic(auto)]
+
+mod blocks;
+mod counts;
+mod laws;
+#[cfg(test)]
+mod tests;
+mod tuples;
+mod typed;
+mod typed_counts;
+mod types;
+mod untyped;
+
+pub use counts::untyped_entries;
+pub use laws::{normal_models_are_tabled, typed_tables_are_functions};
+pub use typed::{TypedSource, tabulate_typed};
+pub use typed_counts::typed_entries;
+pub use untyped::{UntypedSource, tabulate};

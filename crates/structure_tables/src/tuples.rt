@@ -1,0 +1,83 @@
+ghost use Rattle.std.specs.Prelude.{◌≡◌, ◌<◌, ◌++◌, ℕ, List, true, false, length, replicate, OnOk, IfOk};
+ghost use Rattle.enc_base.specs.Tables.{EachBelow, table};
+ghost use Rattle.structure_tables.specs.TupleOrder.{IsNext, IsLast};
+
+use enc_base::{List, NoMemory};
+use std::alloc::Global;
+
+/// A function of tuples of numbers.
+pub(crate) trait TupleFunction {
+    /// Where it is defined.
+    ghost is_defined: { Self → List ℕ → Type 0 };
+
+    /// What it gives.
+    ghost gives: { Self → List ℕ → ℕ };
+
+    fn at(&self, values: &[u32]) -> u32
+        requires { is_defined self.now values.now }
+        ensures { result ≡ gives self.now values.now };
+}
+
+/// The table of a function of so many numbers below a bound.
+pub(crate) fn table_of<F: TupleFunction>(
+    alloc: Global,
+    bound: u32,
+    count: u32,
+    function: &F,
+) -> Result<List<u32>, NoMemory>
+    requires some { 0 < bound }
+    requires defined { (values : List ℕ) → EachBelow (replicate count bound) values → F.is_defined function.now values }
+    ensures { IfOk result (λ entries. entries ≡ table (replicate count bound) (F.gives function.now)) }
+{
+    let bounds = repeated(alloc, bound, count as usize)?;
+    let mut entries = List::new(alloc);
+    append_table(alloc, &mut entries, bounds.as_slice(), function)?;
+    Ok(entries)
+}
+
+/// Appends the table of a function: what it gives for each tuple of numbers below the bounds, in
+/// lexicographic order.
+pub(crate) fn append_table<F: TupleFunction>(
+    alloc: Global,
+    entries: &mut List<u32>,
+    bounds: &[u32],
+    function: &F,
+) -> Result<(), NoMemory>
+    requires some { EachBelow bounds.now (replicate (length bounds.now) 0) }
+    requires defined { (values : List ℕ) → EachBelow bounds.now values → F.is_defined function.now values }
+    ensures { OnOk result (entries.new ≡ entries.old ++ table bounds.now (F.gives function.now)) }
+{
+    let mut values = repeated(alloc, 0, bounds.len())?;
+    loop {
+        entries.push(function.at(values.as_slice()))?;
+        if !next_tuple(&mut values, bounds) {
+            return Ok(());
+        }
+    }
+}
+
+/// A number, so many times.
+pub(crate) fn repeated(alloc: Global, number: u32, count: usize) -> Result<Vec<u32>, NoMemory>
+    ensures { IfOk result (λ numbers. numbers.items ≡ replicate count number) }
+{
+    match vec![in alloc; number; count] {
+        Ok(numbers) => Ok(numbers),
+        Err(_) => Err(NoMemory),
+    }
+}
+
+/// Replaces a tuple of numbers below bounds by the next one. Says whether there is one.
+pub(crate) fn next_tuple(values: &mut [u32], bounds: &[u32]) -> bool
+    requires below { EachBelow bounds.now values.old }
+    ensures next { result ≡ true → IsNext bounds.now values.old values.new }
+    ensures last { result ≡ false → IsLast bounds.now values.old }
+{
+    for i in (0..bounds.len()).rev() {
+        if values[i] + 1 < bounds[i] {
+            values[i] += 1;
+            return true;
+        }
+        values[i] = 0;
+    }
+    false
+}
