@@ -1,0 +1,4 @@
+pub mod Merged
+pub mod Most
+pub mod Kept
+pub mod Refusal
