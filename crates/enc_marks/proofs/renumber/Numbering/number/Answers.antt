@@ -1,0 +1,7 @@
+use Rattle.std.proofs.Common.{rules}
+use Rattle.enc_marks.specs.Flags.{number_of}
+use Rattle.enc_marks.proofs.renumber.Numbering.number.Goals as goal
+
+pub returns : goal.returns
+unfolding number_of
+returns c = search rules

@@ -1,0 +1,15 @@
+pub mod Choices
+pub mod Schemes
+pub mod Translation
+pub mod Axioms
+pub mod Occurrence
+pub mod Names
+pub mod Encoded
+pub mod Marks
+pub mod Flags
+pub mod Marked
+pub mod Uniform
+pub mod Writing
+pub mod Applies
+pub mod Rows
+pub mod Laws

@@ -1,0 +1,27 @@
+use enc_base::{Name, NoMemory};
+use tf_naked::Place;
+use thiserror::Error;
+
+/// Why there is no translation or no structure.
+#[derive(Debug, Drop, Error)]
+pub enum Refusal {
+    /// The scheme asks for a problem without type variables. The first symbol with a parameter has
+    /// this name; where there is none, the first formula with a type variable.
+    #[error("not monomorphic {name}")]
+    NotMonomorphic { name: Name },
+    /// A universal variable stands at this side of a positive equation, which the scheme can't take.
+    #[error("naked variable in formula {} equation {} side {}", place.formula, place.equation, place.side)]
+    NotMonotone { place: Place },
+    /// The structure would have more than 67,108,864 entries: this number, or 2^64 - 1 where it is
+    /// larger.
+    #[error("table too large {entries}")]
+    TableTooLarge { entries: u64 },
+    #[error("no memory")]
+    Memory,
+}
+
+impl From<NoMemory> for Refusal {
+    fn from(_: NoMemory) -> Self {
+        Refusal::Memory
+    }
+}
