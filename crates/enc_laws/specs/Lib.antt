@@ -1,0 +1,9 @@
+pub mod Relations
+pub mod Corresponds
+pub mod Directions
+pub mod ForwardAxioms
+pub mod MergedStructure
+pub mod Ranks
+pub mod Lifted
+pub mod Present
+pub mod Laws

@@ -1,0 +1,10 @@
+//! The truth laws of the translations: models of a problem and of its translation.
+#![tactic(auto)]
+
+mod laws;
+
+pub use laws::{
+    guarded_tables_are_lifted, lifted_is_model, merged_is_encoded_model, merged_is_model,
+    models_are_encoded, only_present_symbols_count, problems_go_back, problems_go_forward,
+    symbols_are_marked, truth_goes_back, truth_goes_forward,
+};
