@@ -1,0 +1,145 @@
+ghost use Rattle.std.specs.Prelude.{◌≡◌, ◌≤◌, map, length, replicate, slice_get, Some};
+ghost use Rattle.enc_base.specs.Tables.{EachBelow, tuple_count};
+ghost use Rattle.tf_core.specs.Typing.{IsType, AreTypes, IsSymbol};
+ghost use Rattle.tf_core.specs.Structures.{member_of, AreArguments};
+ghost use Rattle.tf_models.specs.Evaluation.{IsPlaced};
+ghost use Rattle.enc_models.specs.Lifting.{typed_in, bounds_in, numbers_in, entry_in, IsLifting};
+
+use crate::marked::Marked;
+use enc_base::List;
+use structure_tables::TypedSource;
+use tf_core::{Symbol, Ty};
+
+/// The lifted structure of an untyped one. Its values are computed and take no memory.
+#[derive(Drop)]
+pub(crate) struct Lifting<'a> {
+    pub marked: &'a Marked<'a>,
+    /// The numbers that the elements of each member stand for, in rising order.
+    pub picked: &'a [List<u32>],
+    /// The rank of each number of the domain in each member.
+    pub ranks: &'a [List<u32>],
+}
+
+impl TypedSource for Lifting<'_> {
+    ghost signature = { λ it. it.marked.now.normal.now.signature };
+
+    ghost structure = { λ it. typed_in it.marked.now };
+
+    ghost is_ready = { IsLifting };
+
+    fn constructor_value(&self, constructor: u32, members: &[u32]) -> u32 {
+        let symbols = self.marked.normal.signature.symbols.as_slice().len();
+        let table = self.marked.table(symbols + constructor as usize);
+        if table.len() == 0 {
+            return 0;
+        }
+        table[self.place_of_members(members, table)]
+    }
+
+    fn symbol_value(&self, symbol: u32, members: &[u32], elements: &[u32]) -> u32 {
+        let stated = &self.marked.normal.signature.symbols.as_slice()[symbol as usize];
+        let entry = self.entry(symbol, stated, members, elements);
+        match &stated.result {
+            Some(ty) => {
+                let member = self.member_of(ty, members);
+                self.ranks[member as usize].as_slice()[entry as usize]
+            }
+            None => entry,
+        }
+    }
+}
+
+impl Lifting<'_> {
+    // the place of a tuple of members, in a table with an entry for each tuple
+    fn place_of_members(&self, members: &[u32], table: &[u32]) -> usize
+        requires members { EachBelow (replicate (length members.now) self.now.marked.now.model.now.size) members.now }
+        requires entries { tuple_count (replicate (length members.now) self.now.marked.now.model.now.size) ≤ length table.now }
+        ensures { IsPlaced (replicate (length members.now) self.now.marked.now.model.now.size) members.now result }
+    {
+        let mut at = 0usize;
+        for member in members {
+            at = at * self.marked.model.size as usize + *member as usize;
+        }
+        at
+    }
+
+    // the member that a type is, under members for its variables
+    #[cycle(member_of)]
+    fn member_of(&self, ty: &Ty, members: &[u32]) -> u32
+        requires ready { IsLifting self.now }
+        requires members { EachBelow (replicate (length members.now) self.now.marked.now.model.now.size) members.now }
+        requires typed { IsType self.now.marked.now.normal.now.signature (length members.now) ty.now }
+        ensures { result ≡ member_of (typed_in self.now.marked.now) members.now ty.now }
+    {
+        match ty {
+            Ty::Var(i) => members[*i as usize],
+            Ty::Apply(c, types) => {
+                let symbols = self.marked.normal.signature.symbols.as_slice().len();
+                let table = self.marked.table(symbols + *c as usize);
+                if table.len() == 0 {
+                    return 0;
+                }
+                let at = self.place_of_types(types.as_slice(), members, table);
+                table[at]
+            }
+        }
+    }
+
+    // the place of the tuple of the members that types are
+    #[cycle(member_of)]
+    fn place_of_types(&self, types: &[Ty], members: &[u32], table: &[u32]) -> usize
+        requires ready { IsLifting self.now }
+        requires members { EachBelow (replicate (length members.now) self.now.marked.now.model.now.size) members.now }
+        requires typed { AreTypes self.now.marked.now.normal.now.signature (length members.now) types.now }
+        requires entries { tuple_count (replicate (length types.now) self.now.marked.now.model.now.size) ≤ length table.now }
+        ensures { IsPlaced (replicate (length types.now) self.now.marked.now.model.now.size) (map (member_of (typed_in self.now.marked.now) members.now) types.now) result }
+    {
+        let mut at = 0usize;
+        for ty in types {
+            let member = self.member_of(ty, members);
+            at = at * self.marked.model.size as usize + member as usize;
+        }
+        at
+    }
+
+    // what the table of a symbol gives for members and the numbers that elements stand for
+    fn entry(&self, f: u32, symbol: &Symbol, members: &[u32], elements: &[u32]) -> u32
+        requires ready { IsLifting self.now }
+        requires at { slice_get self.now.marked.now.normal.now.signature.symbols f ≡ Some symbol.now }
+        requires arguments { AreArguments (typed_in self.now.marked.now) symbol.now members.now elements.now }
+        ensures { result ≡ entry_in self.now.marked.now f symbol.now members.now elements.now }
+    {
+        let table = self.marked.table(f as usize);
+        if table.len() == 0 {
+            return 0;
+        }
+        table[self.place_of_arguments(symbol, members, elements, table)]
+    }
+
+    // the place of the tuple of members and of the numbers that elements stand for
+    fn place_of_arguments(
+        &self,
+        symbol: &Symbol,
+        members: &[u32],
+        elements: &[u32],
+        table: &[u32],
+    ) -> usize
+        requires ready { IsLifting self.now }
+        requires typed { IsSymbol self.now.marked.now.normal.now.signature symbol.now }
+        requires arguments { AreArguments (typed_in self.now.marked.now) symbol.now members.now elements.now }
+        requires entries { tuple_count (bounds_in self.now.marked.now symbol.now) ≤ length table.now }
+        ensures { IsPlaced (bounds_in self.now.marked.now symbol.now) (numbers_in self.now.marked.now symbol.now members.now elements.now) result }
+    {
+        let size = self.marked.model.size as usize;
+        let mut at = 0usize;
+        for member in members {
+            at = at * size + *member as usize;
+        }
+        for (i, ty) in symbol.arguments.as_slice().iter().enumerate() {
+            let member = self.member_of(ty, members);
+            let number = self.picked[member as usize].as_slice()[elements[i] as usize];
+            at = at * size + number as usize;
+        }
+        at
+    }
+}
