@@ -1,0 +1,4 @@
+pub mod Headline
+pub mod FileProblems
+pub mod EncodedNames
+pub mod Guarded

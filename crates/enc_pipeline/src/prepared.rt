@@ -1,0 +1,141 @@
+ghost use Rattle.std.specs.Prelude.{◌≡◌, ◌≤◌, ◌↔◌, length, OnOk, OnErr, IfOk, IfErr};
+ghost use Rattle.std.specs.Io.KnownBytes.{Appends};
+ghost use Rattle.enc_base.specs.Counts.{Rose};
+ghost use Rattle.enc_base.specs.Sink.{AppendsPrefix};
+ghost use Rattle.tf_check.specs.Writable.{HasWritableNames};
+ghost use Rattle.tf_core.specs.Sound.{IsSound, IsSoundNormal};
+ghost use Rattle.tf_core.specs.TypedTables.{HasFiniteModel};
+ghost use Rattle.tf_nnf.specs.NormalForm.{normal_of};
+ghost use Rattle.tf_nnf.specs.Refusal.{most_nodes};
+ghost use Rattle.fof_text.specs.States.{TextHasFiniteModel};
+ghost use Rattle.enc_marks.specs.Applies.{Applies};
+ghost use Rattle.enc_marks.specs.Encoded as marks;
+ghost use Rattle.enc_marks.specs.Schemes.{choices_of};
+ghost use Rattle.enc_pipeline.specs.Way.{Preparation, IsInRange, IsBuilt};
+ghost use Rattle.enc_pipeline.specs.Output as specs;
+ghost use Rattle.enc_pipeline.specs.Causes.{nodes_of, IsUnprepared};
+ghost use Rattle.enc_pipeline.specs.declared.how.How.{How};
+
+use crate::output::write_output;
+use crate::{Fault, How};
+use enc_base::{Failed, Sink};
+use enc_marks::{Encoded, Refusal};
+use fof_text::Names;
+use std::alloc::Global;
+use std::marker::Model;
+use tf_core::{Normal, Problem};
+use tf_nnf::{NormalError, normalise};
+
+/// A problem that is ready to be encoded, with all that was made of it.
+#[derive(Debug, Drop)]
+pub struct Prepared {
+    problem: Problem,
+    how: How,
+    normal: Normal,
+    encoded: Encoded,
+    names: Names,
+}
+
+impl Model for Prepared {
+    ghost use Rattle.enc_pipeline.specs.Way.{Preparation};
+    ghost use Rattle.enc_pipeline.specs.Ready.{IsReady};
+    ghost use Rattle.tf_core.specs.contracts.problem.Problem as known;
+    ghost use Rattle.std.specs.Coded.{codes};
+
+    ghost Value = { Preparation };
+
+    ghost coded = { Prim.hlevel (codes, known.the_row.coded) };
+
+    ghost view = { λ p. record { problem = p.problem; how = p.how } };
+
+    ghost invariant = { λ p. IsReady p.problem p.how p.normal p.encoded p.names };
+}
+
+// the normal problem
+fn normalised(alloc: Global, problem: &Problem) -> Result<Normal, Fault>
+    requires sound { IsSound problem.now }
+    ensures exact { IfOk result (λ normal. normal ≡ normal_of problem.now) }
+    ensures within { IfOk result (λ normal. nodes_of problem.now ≤ most_nodes) }
+    ensures sound { IfOk result IsSoundNormal }
+    ensures cause { (how : How) → IfErr result (IsUnprepared problem.now how) }
+{
+    match normalise(alloc, problem) {
+        Ok(normal) => Ok(normal),
+        Err(NormalError::Memory) => Err(Fault::Memory),
+        Err(NormalError::TooLarge { nodes }) => Err(Fault::TooLarge { nodes }),
+    }
+}
+
+// the translation of a normal problem in a way that is built
+fn encoded(alloc: Global, how: &How, normal: &Normal) -> Result<Encoded, Fault>
+    requires sound { IsSoundNormal normal.now }
+    requires built { IsBuilt how.now }
+    ensures exact { IfOk result (λ made. made ≡ marks.encoded (choices_of how.now.scheme normal.now) normal.now) }
+    ensures applies { IfOk result (λ made. Applies how.now.scheme normal.now) }
+    ensures cause { IfErr result (λ fault. fault ≡ Fault.Memory) }
+{
+    match enc_guards::encode(alloc, enc_marks::Scheme::Guards, normal) {
+        Ok(made) => Ok(made),
+        Err(_) => Err(Fault::Memory),
+    }
+}
+
+/// Makes all that encoding a problem in a way needs. The problem is taken, and dropped where it is
+/// refused.
+///
+/// The problem is to be sound and its names such as can be written, which holds of each problem that
+/// is read; the way is to be built, and its numbers those that the command line takes.
+pub fn prepare(alloc: Global, problem: Problem, how: How) -> Result<Prepared, Fault>
+    requires sound { IsSound problem }
+    requires named { HasWritableNames problem }
+    requires range { IsInRange how }
+    requires built { IsBuilt how }
+    ensures exact { IfOk result (λ prepared. prepared ≡ record { problem = problem; how = how }) }
+    ensures within { IfOk result (λ prepared. nodes_of problem ≤ most_nodes) }
+    ensures applies { IfOk result (λ prepared. Applies how.scheme (normal_of problem)) }
+    ensures refused { IfErr result (IsUnprepared problem how) }
+{
+    let normal = match normalised(alloc, &problem) {
+        Ok(normal) => normal,
+        Err(fault) => return Err(fault),
+    };
+    let encoded = match encoded(alloc, &how, &normal) {
+        Ok(encoded) => encoded,
+        Err(fault) => return Err(fault),
+    };
+    match Names::choose(alloc, encoded.problem.signature.as_slice()) {
+        Ok(names) => Ok(Prepared {
+            problem,
+            how,
+            normal,
+            encoded,
+            names,
+        }),
+        Err(_) => Err(Fault::Memory),
+    }
+}
+
+/// How many formulas the translation has.
+pub fn written_formulas(prepared: &Prepared) -> usize
+    ensures { result ≡ length (specs.translated prepared.now.how.scheme prepared.now.problem).problem.formulas }
+{
+    prepared.encoded.problem.formulas.as_slice().len()
+}
+
+/// Writes the translation: a first line that names the scheme, and then the untyped problem.
+pub fn encode_file<O: Sink>(prepared: &Prepared, out: &mut O) -> Result<(), Fault>
+    ensures exact { OnOk result (Appends (O.bytes out.old) (O.bytes out.new) (specs.output prepared.now)) }
+    ensures headline { TextHasFiniteModel (specs.output prepared.now) ↔ HasFiniteModel prepared.now.problem }
+    ensures within { OnErr result (AppendsPrefix (O.bytes out.old) (O.bytes out.new) (specs.output prepared.now)) }
+    ensures cause { IfErr result (λ fault. (fault ≡ Fault.Write) × Rose (O.faults out.old) (O.faults out.new)) }
+{
+    match write_output(
+        &prepared.how.scheme,
+        &prepared.encoded.problem,
+        &prepared.names,
+        out,
+    ) {
+        Ok(()) => Ok(()),
+        Err(Failed) => Err(Fault::Write),
+    }
+}
