@@ -1,9 +1,8 @@
 -- The names that are chosen for the untyped problem of a problem whose names can be written.
-use Rattle.std.specs.Prelude.{◌≡◌, Bool, true, false, List, [], ◌∷◌, map}
+use Rattle.std.specs.Prelude.{◌≡◌, Bool, true, false, List, [], ◌∷◌}
 use Rattle.std.specs.List.{AllByRecursion}
 use Rattle.std.proofs.Common.{refl, sym, subst}
 use Rattle.tf_core.specs.declared.ty.Ty.{Ty}
-use Rattle.tf_core.specs.declared.signature.Symbol.{Symbol}
 use Rattle.tf_core.specs.declared.problem.Role.{Role}
 use Rattle.tf_core.specs.declared.problem.Role.TheVariants.{Hypothesis, Conjecture}
 use Rattle.tf_core.specs.declared.problem.Stated.{Stated}

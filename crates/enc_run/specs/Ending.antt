@@ -1,9 +1,10 @@
 -- How a run ends, and what each way to end rests on.
-use Rattle.std.specs.Prelude.{◌≡◌, ◌≤◌, ◌⊎◌, ℕ, true, false, List, Option, Some, None, Result, Ok, Err}
+use Rattle.std.specs.Prelude.{◌≡◌, ◌≤◌, ◌⊎◌, ℕ, List, Option, Some, None, Result, Ok, Err}
 use Rattle.std.specs.Io.KnownBytes.{Appends, Keeps}
 use Rattle.enc_base.specs.Counts.{one_more}
 use Rattle.enc_base.specs.Library.{IsHeld}
 use Rattle.enc_base.specs.Sink.{AppendsPrefix}
+use Rattle.enc_marks.specs.declared.scheme.Scheme.{Scheme}
 use Rattle.enc_run.specs.Refusals.{IsRefusedBy, IsUnbuilt, IsEncodedAs}
 use Rattle.enc_run.specs.Stop.{status_of}
 use Rattle.enc_run.specs.Note.{Notes}
@@ -12,10 +13,11 @@ use Rattle.enc_run.specs.declared.job.Job.{Job}
 use Rattle.enc_run.specs.declared.stop.Stop.{Stop}
 use Rattle.enc_run.specs.declared.stop.Stop.TheVariants.{NotBuilt, Unread, Refused, Unwritten, Memory}
 
--- the words give a job, and this holds of a text that may be its problem's
-abbrev pub OfText : Work → (List ℕ → Type 0) → Type 0
+-- the words give a job, and this holds of its scheme and of a text that may be its problem's
+abbrev pub OfText : Work → (Scheme → List ℕ → Type 0) → Type 0
 OfText w Holding =
-    (job : Job) × (w.job ≡ Some job) × ((text : List ℕ) × HasText w job text × Holding text)
+    (job : Job) × (w.job ≡ Some job)
+    × ((text : List ℕ) × HasText w job text × Holding job.scheme text)
 
 -- ---- how a run ended
 
@@ -25,9 +27,10 @@ CauseOf w NotBuilt = (w.job ≡ None) ⊎ OfText w IsUnbuilt
 CauseOf w (Unread name) =
     (job : Job) × (w.job ≡ Some job) × (job.problem ≡ name) × Rises w.faults
     × (IsHeld w.held name → OwnRises w name)
-CauseOf w (Refused reason) = OfText w (IsRefusedBy reason)
+CauseOf w (Refused reason) = OfText w (λ which. IsRefusedBy which reason)
 CauseOf w Unwritten =
-    ((output : List ℕ) × OfText w (IsEncodedAs output) × AppendsPrefix w.out.before w.out.after output)
+    ((output : List ℕ) × OfText w (λ which. IsEncodedAs which output)
+    × AppendsPrefix w.out.before w.out.after output)
     × Rises w.out_faults
 CauseOf w Memory = Unit {0}
 
@@ -39,7 +42,8 @@ LeavesOut w _ = Keeps w.out.before w.out.after
 -- the run wrote a whole output, or was stopped
 abbrev pub EndsBy : Work → Result (Unit {0}) Stop → Type 0
 EndsBy w (Ok done) =
-    (output : List ℕ) × OfText w (IsEncodedAs output) × Appends w.out.before w.out.after output
+    (output : List ℕ) × OfText w (λ which. IsEncodedAs which output)
+    × Appends w.out.before w.out.after output
 EndsBy w (Err stop) = CauseOf w stop × LeavesOut w stop
 
 -- at most one read, and none where the words give no job

@@ -1,7 +1,6 @@
 pub mod Marks
 pub mod Plain
 pub mod Erased
-pub mod Output
 pub mod Refusals
 pub mod Job
 pub mod Note

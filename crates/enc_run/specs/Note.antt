@@ -1,5 +1,5 @@
 -- The lines that are written to the notes.
-use Rattle.std.specs.Prelude.{◌≡◌, ◌∷◌, ◌++◌, ℕ, List, [], codes, Option}
+use Rattle.std.specs.Prelude.{◌≡◌, ◌++◌, ℕ, List, codes, Option}
 use Rattle.std.specs.Io.KnownBytes.{Appends}
 use Rattle.enc_run.specs.Refusals.{number_of}
 use Rattle.enc_run.specs.declared.stop.Stop.{Stop}
@@ -27,8 +27,8 @@ line text = program_word ++ (text ++ codes "\n")
 abbrev pub IsNoteOf : Stop → List ℕ → Type 0
 IsNoteOf NotBuilt note = note ≡ line not_built
 IsNoteOf (Unread name) note = note ≡ line (cannot_read ++ name)
-IsNoteOf (Refused refusal) note =
-    (rest : List ℕ) × (note ≡ program_word ++ (number_of refusal ++ rest))
+IsNoteOf (Refused reason) note =
+    (rest : List ℕ) × (note ≡ program_word ++ (number_of reason ++ rest))
 IsNoteOf Unwritten note = note ≡ line cannot_write
 IsNoteOf Memory note = note ≡ line no_memory
 

@@ -1,21 +1,25 @@
 -- The reasons for which a problem is refused: when each stands, its status and its number.
-use Rattle.std.specs.Prelude.{◌≡◌, ◌<◌, ◌≤◌, ℕ, true, false, List, ◌∷◌, [], codes, Ok, Err}
-use Rattle.tptp_syntax.specs.declared.entry.File.{File}
+use Rattle.std.specs.Prelude.{◌≡◌, ◌<◌, ◌≤◌, ℕ, Bool, true, false, List, [], codes}
 use Rattle.tptp_syntax.specs.declared.error.ReadError.{ReadError}
 use Rattle.tptp_syntax.specs.declared.error.ReadError.TheVariants as reading
-use Rattle.tptp_syntax.specs.Files.{Verdict}
 use Rattle.tf_check.specs.declared.error.TypeError.{TypeError}
 use Rattle.tf_check.specs.declared.error.TypeError.TheVariants as typing
-use Rattle.tf_check.specs.Faults.{faults}
-use Rattle.tf_check.specs.Typing.{IsTyped}
 use Rattle.tf_core.specs.declared.problem.Problem.{Problem}
-use Rattle.tf_nnf.specs.Nodes.{normal_nodes, in_64_bits}
+use Rattle.tf_nnf.specs.Nodes.{in_64_bits}
 use Rattle.tf_nnf.specs.NormalForm.{normal_of}
+use Rattle.tf_nnf.specs.Refusal.{most_nodes}
+use Rattle.fof_models.specs.declared.problem.FofProblem.{FofProblem}
+use Rattle.enc_marks.specs.declared.refusal.Refusal.{Refusal}
+use Rattle.enc_marks.specs.declared.refusal.Refusal.TheVariants as refusal
+use Rattle.enc_marks.specs.declared.scheme.Scheme.{Scheme}
+use Rattle.enc_marks.specs.declared.scheme.Scheme.TheVariants as scheme
+use Rattle.enc_pipeline.specs.declared.fault.Fault.{Fault}
+use Rattle.enc_pipeline.specs.declared.fault.Fault.TheVariants as fault
+use Rattle.enc_pipeline.specs.Reading.{HasProblem}
+use Rattle.enc_pipeline.specs.Causes.{IsUnreadable, nodes_of}
+use Rattle.enc_pipeline.specs.Output.{output_of, translated}
 use Rattle.enc_run.specs.Plain.{is_plain}
 use Rattle.enc_run.specs.Erased.{erased}
-use Rattle.enc_run.specs.Output.{output_of}
-use Rattle.enc_run.specs.declared.refusal.Refusal.{Refusal}
-use Rattle.enc_run.specs.declared.refusal.Refusal.TheVariants.{Reading, Typing, TooManyNodes}
 
 -- ---- statuses
 
@@ -28,11 +32,21 @@ abbrev pub typing_status : TypeError → ℕ
 typing_status (typing.TooManySymbols count) = 5
 typing_status _ = 1
 
--- a limit that is passed has status 5, any other refusal 1
-abbrev pub status_of : Refusal → ℕ
-status_of (Reading reason) = reading_status reason
-status_of (Typing reason) = typing_status reason
-status_of (TooManyNodes nodes) = 5
+abbrev pub scheme_status : Refusal → ℕ
+scheme_status (refusal.NotMonomorphic name) = 3
+scheme_status (refusal.NotMonotone place) = 3
+scheme_status (refusal.TableTooLarge entries) = 5
+scheme_status refusal.Memory = 8
+
+-- A limit that is passed has status 5, a scheme that doesn't apply 3, and any other refusal 1. The
+-- last two are no refusals.
+abbrev pub status_of : Fault → ℕ
+status_of (fault.Reading reason) = reading_status reason
+status_of (fault.Typing reason) = typing_status reason
+status_of (fault.TooLarge nodes) = 5
+status_of (fault.Scheme reason) = scheme_status reason
+status_of fault.Write = 7
+status_of fault.Memory = 8
 
 -- ---- numbers, each with a space
 
@@ -63,40 +77,51 @@ typing_number (typing.SecondConjecture entry) = codes "20 "
 typing_number (typing.TooManySymbols count) = codes "21 "
 typing_number typing.Memory = []
 
-unfoldable pub number_of : Refusal → List ℕ
-number_of (Reading reason) = reading_number reason
-number_of (Typing reason) = typing_number reason
-number_of (TooManyNodes nodes) = codes "22 "
+abbrev pub scheme_number : Refusal → List ℕ
+scheme_number (refusal.NotMonomorphic name) = codes "31 "
+scheme_number (refusal.NotMonotone place) = codes "32 "
+scheme_number (refusal.TableTooLarge entries) = codes "33 "
+scheme_number refusal.Memory = []
+
+unfoldable pub number_of : Fault → List ℕ
+number_of (fault.Reading reason) = reading_number reason
+number_of (fault.Typing reason) = typing_number reason
+number_of (fault.TooLarge nodes) = codes "22 "
+number_of (fault.Scheme reason) = scheme_number reason
+number_of fault.Write = []
+number_of fault.Memory = []
 
 -- ---- what a text leads to
 
--- the text spells a file within the limits that is well typed with the problem
-abbrev pub HasProblem : List ℕ → Problem → Type 0
-HasProblem text problem = (file : File) × Verdict text (Ok file) × IsTyped file problem
+-- whether a problem is taken by a scheme: all are by `guards`, and plain ones by `erase`
+abbrev pub is_taken : Scheme → Problem → Bool
+is_taken scheme.Guards problem = true
+is_taken scheme.Erase problem = is_plain problem
+is_taken _ problem = false
 
--- how many nodes a normal problem may have
-abbrev pub most_nodes : ℕ
-most_nodes = 4194304
+-- the untyped problem that is written for a problem by a scheme
+abbrev pub untyped_problem : Scheme → Problem → FofProblem
+untyped_problem scheme.Erase problem = erased (normal_of problem)
+untyped_problem which problem = (translated which problem).problem
 
-abbrev pub nodes_of : Problem → ℕ
-nodes_of problem = normal_nodes (normal_of problem)
-
--- the text is refused for this reason
-abbrev pub IsRefusedBy : Refusal → List ℕ → Type 0
-IsRefusedBy (Reading reason) text = Verdict text (Err reason)
-IsRefusedBy (Typing reason) text =
-    (file : File) × (more : List TypeError) × Verdict text (Ok file)
-    × (faults file ≡ reason ∷ more)
-IsRefusedBy (TooManyNodes nodes) text =
-    (problem : Problem) × HasProblem text problem × (is_plain problem ≡ true)
+-- The text is refused for this reason. No scheme that is built refuses a problem, and neither want
+-- of memory nor a failed write is a refusal.
+abbrev pub IsRefusedBy : Scheme → Fault → List ℕ → Type 0
+IsRefusedBy which (fault.Reading reason) text = IsUnreadable text (fault.Reading reason)
+IsRefusedBy which (fault.Typing reason) text = IsUnreadable text (fault.Typing reason)
+IsRefusedBy which (fault.TooLarge nodes) text =
+    (problem : Problem) × HasProblem text problem × (is_taken which problem ≡ true)
     × (most_nodes < nodes_of problem) × (nodes ≡ in_64_bits (nodes_of problem))
+IsRefusedBy which _ text = ⊥
 
--- the text has a problem, which isn't plain
-abbrev pub IsUnbuilt : List ℕ → Type 0
-IsUnbuilt text = (problem : Problem) × HasProblem text problem × (is_plain problem ≡ false)
+-- the text has a problem, which isn't taken
+abbrev pub IsUnbuilt : Scheme → List ℕ → Type 0
+IsUnbuilt which text =
+    (problem : Problem) × HasProblem text problem × (is_taken which problem ≡ false)
 
--- the text has a plain problem within the limits, which is encoded as these bytes
-abbrev pub IsEncodedAs : List ℕ → List ℕ → Type 0
-IsEncodedAs output text =
-    (problem : Problem) × HasProblem text problem × (is_plain problem ≡ true)
-    × (nodes_of problem ≤ most_nodes) × (output ≡ output_of (erased (normal_of problem)))
+-- the text has a problem that is taken and within the limits, and it is encoded as these bytes
+abbrev pub IsEncodedAs : Scheme → List ℕ → List ℕ → Type 0
+IsEncodedAs which output text =
+    (problem : Problem) × HasProblem text problem × (is_taken which problem ≡ true)
+    × (nodes_of problem ≤ most_nodes)
+    × (output ≡ output_of which (untyped_problem which problem))

@@ -1,5 +1,7 @@
 -- The ways in which a run ends early, and their statuses.
 use Rattle.std.specs.Prelude.{ℕ}
+use Rattle.enc_pipeline.specs.declared.fault.Fault.{Fault}
+use Rattle.enc_pipeline.specs.declared.fault.Fault.TheVariants as fault
 use Rattle.enc_run.specs.Refusals as refusals
 use Rattle.enc_run.specs.declared.stop.Stop.{Stop}
 use Rattle.enc_run.specs.declared.stop.Stop.TheVariants.{NotBuilt, Unread, Refused, Unwritten, Memory}
@@ -7,6 +9,15 @@ use Rattle.enc_run.specs.declared.stop.Stop.TheVariants.{NotBuilt, Unread, Refus
 abbrev pub status_of : Stop → ℕ
 status_of NotBuilt = 9
 status_of (Unread name) = 6
-status_of (Refused refusal) = refusals.status_of refusal
+status_of (Refused reason) = refusals.status_of reason
 status_of Unwritten = 7
 status_of Memory = 8
+
+-- how a fault ends a run
+abbrev pub stop_of : Fault → Stop
+stop_of fault.Write = Unwritten
+stop_of fault.Memory = Memory
+stop_of (fault.Reading reason) = Refused (fault.Reading reason)
+stop_of (fault.Typing reason) = Refused (fault.Typing reason)
+stop_of (fault.TooLarge nodes) = Refused (fault.TooLarge nodes)
+stop_of (fault.Scheme reason) = Refused (fault.Scheme reason)

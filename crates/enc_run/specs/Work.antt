@@ -1,7 +1,7 @@
 -- A run as its caller sees it.
-use Rattle.std.specs.Prelude.{◌≡◌, ℕ, List, Option, Some}
+use Rattle.std.specs.Prelude.{◌≡◌, ℕ, List, [], Option, Some}
 use Rattle.enc_base.specs.Counts.{Rose}
-use Rattle.enc_base.specs.Library.{Files, Holds}
+use Rattle.enc_base.specs.Library.{Files, Holds, Gives}
 use Rattle.enc_run.specs.declared.job.Job.{Job}
 
 -- a value before a call and after it
@@ -47,6 +47,7 @@ pub record IsTold (w : Work) (job : Job) (text : List ℕ) : Type 0 where
   pub job_is : w.job ≡ Some job
   pub holds : Holds w.held job.problem text
 
--- The text may be that of the job's problem: where the library tells one, it is this one.
+-- The text is that of the job's problem, as far as the library tells it: a library that tells its
+-- files holds it under that name.
 abbrev pub HasText : Work → Job → List ℕ → Type 0
-HasText w job text = (told : List ℕ) → Holds w.held job.problem told → told ≡ text
+HasText w job text = Gives w.held job.problem [] text

@@ -3,7 +3,6 @@
 
 mod job;
 mod notes;
-mod output;
 mod plain;
 mod problem;
 mod refusal;
@@ -14,7 +13,6 @@ mod text;
 mod top;
 
 pub use job::Job;
-pub use refusal::Refusal;
 pub use stop::Stop;
 pub use text::Text;
 pub use top::run;

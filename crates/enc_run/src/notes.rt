@@ -4,10 +4,12 @@ ghost use Rattle.std.specs.Prelude.{◌≡◌, ◌≤◌, ◌++◌, ℕ, List, O
 ghost use Rattle.std.specs.Io.KnownBytes.{Appends};
 ghost use Rattle.enc_base.specs.Counts.{Rose};
 ghost use Rattle.enc_run.specs.Note.{Notes, line, not_built, cannot_read, cannot_write, no_memory, program_word};
-ghost use Rattle.enc_run.specs.Refusals.{number_of, reading_number, typing_number};
+ghost use Rattle.enc_run.specs.Refusals.{number_of, reading_number, scheme_number, typing_number};
 
-use crate::{Refusal, Stop};
+use crate::Stop;
 use enc_base::{Failed, Sink};
+use enc_marks::Refusal;
+use enc_pipeline::Fault;
 use std::alloc::Global;
 use tf_check::TypeError;
 use tptp_syntax::ReadError;
@@ -97,34 +99,48 @@ fn typing_number(reason: &TypeError) -> &'static [u8]
     }
 }
 
-#[tactic(auto, unfolding(crate::specs::Refusals::number_of))]
-fn number_of(refusal: &Refusal) -> &'static [u8]
-    ensures { result.now ≡ number_of refusal.now }
+fn scheme_number(reason: &Refusal) -> &'static [u8]
+    ensures { result.now ≡ scheme_number reason.now }
 {
-    match refusal {
-        Refusal::Reading(reason) => reading_number(reason),
-        Refusal::Typing(reason) => typing_number(reason),
-        Refusal::TooManyNodes { .. } => b"22 ",
+    match reason {
+        Refusal::NotMonomorphic { .. } => b"31 ",
+        Refusal::NotMonotone { .. } => b"32 ",
+        Refusal::TableTooLarge { .. } => b"33 ",
+        Refusal::Memory => b"",
+    }
+}
+
+#[tactic(auto, unfolding(crate::specs::Refusals::number_of))]
+fn number_of(reason: &Fault) -> &'static [u8]
+    ensures { result.now ≡ number_of reason.now }
+{
+    match reason {
+        Fault::Reading(reason) => reading_number(reason),
+        Fault::Typing(reason) => typing_number(reason),
+        Fault::TooLarge { .. } => b"22 ",
+        Fault::Scheme(reason) => scheme_number(reason),
+        Fault::Write => b"",
+        Fault::Memory => b"",
     }
 }
 
 // The text of a refusal, or nothing where there is no memory for it.
-fn message(alloc: Global, refusal: &Refusal) -> String {
-    match refusal.to_string(alloc) {
+fn message(alloc: Global, reason: &Fault) -> String {
+    match reason.to_string(alloc) {
         Ok(text) => text,
         Err(_) => String::new(alloc),
     }
 }
 
-fn write_refusal<E: Sink>(alloc: Global, refusal: &Refusal, notes: &mut E) -> Result<(), Failed>
+fn write_refusal<E: Sink>(alloc: Global, reason: &Fault, notes: &mut E) -> Result<(), Failed>
     ensures ok { OnOk result ((rest : List ℕ)
-        × Appends (E.bytes notes.old) (E.bytes notes.new) (program_word ++ (number_of refusal.now ++ rest))) }
+        × Appends (E.bytes notes.old) (E.bytes notes.new) (program_word ++ (number_of reason.now ++ rest))) }
     ensures failed { OnErr result (Rose (E.faults notes.old) (E.faults notes.new)) }
     ensures later { E.faults notes.old ≤ E.faults notes.new }
 {
-    let text = message(alloc, refusal);
+    let text = message(alloc, reason);
     write_program_word(notes)?;
-    notes.write(number_of(refusal))?;
+    notes.write(number_of(reason))?;
     match write_both(text.as_bytes(), b"\n", notes) {
         Ok(()) => Ok(()),
         Err(_) => Err(Failed),
@@ -159,7 +175,7 @@ fn try_note<E: Sink>(alloc: Global, stop: &Stop, notes: &mut E) -> Result<(), Fa
     match stop {
         Stop::NotBuilt => write_line(not_built(), notes),
         Stop::Unread(name) => write_unread(name.as_str().as_bytes(), notes),
-        Stop::Refused(refusal) => write_refusal(alloc, refusal, notes),
+        Stop::Refused(reason) => write_refusal(alloc, reason, notes),
         Stop::Unwritten => write_line(cannot_write(), notes),
         Stop::Memory => write_line(no_memory(), notes),
     }

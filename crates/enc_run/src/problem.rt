@@ -1,88 +1,109 @@
-//! From a problem's text to the untyped problem that is written for it.
+//! From a problem's text to what is written for it.
 
-ghost use Rattle.std.specs.Prelude.{◌≡◌, ◌≤◌, true, Ok, IfOk, IfErr};
-ghost use Rattle.tptp_syntax.specs.Files.{Verdict};
-ghost use Rattle.tf_check.specs.Limits.{IsWithin};
-ghost use Rattle.tf_check.specs.Typing.{IsTyped};
-ghost use Rattle.tf_core.specs.Sound.{IsSound};
+ghost use Rattle.std.specs.Prelude.{◌≡◌, ◌≤◌, IfOk, IfErr, IsTrue};
+ghost use Rattle.tf_check.specs.Writable.{HasWritableNames};
+ghost use Rattle.tf_core.specs.Sound.{IsSound, IsSoundNormal};
 ghost use Rattle.tf_nnf.specs.NormalForm.{normal_of};
+ghost use Rattle.tf_nnf.specs.Refusal.{most_nodes};
+ghost use Rattle.enc_pipeline.specs.Causes.{nodes_of};
+ghost use Rattle.enc_run.specs.Parts.{IsTranslationOf, ProblemEnds, ProblemStops, TextEnds};
 ghost use Rattle.enc_run.specs.Plain.{is_plain};
-ghost use Rattle.enc_run.specs.Refusals.{most_nodes, nodes_of};
-ghost use Rattle.enc_run.specs.Parts.{TextStops, FileStops, ProblemStops, IsProblemOf, IsTranslationOf};
 
+use crate::Stop;
 use crate::plain::{erase, is_plain};
-use crate::{Refusal, Stop};
-use enc_base::NoMemory;
+use enc_base::{Failed, NoMemory, Sink};
+use enc_marks::Scheme;
+use enc_pipeline::{Fault, How, encode_file, prepare, read_problem, write_output};
 use fof_models::FofProblem;
+use fof_text::Names;
 use std::alloc::Global;
-use tf_check::{TypeError, check};
 use tf_core::{Normal, Problem};
 use tf_nnf::{NormalError, normalise};
-use tptp_syntax::{File, ReadError, read_file};
 
-fn read(alloc: Global, text: &[u8]) -> Result<File, Stop>
-    ensures read { IfOk result (λ file. Verdict text.now (Ok file)) }
-    ensures cause { IfErr result (TextStops text.now) }
+// Encodes a problem by `guards`, which takes every problem.
+fn encode_by_guards<O: Sink>(alloc: Global, problem: Problem, out: &mut O) -> Result<(), Stop>
+    requires sound { IsSound problem }
+    requires named { HasWritableNames problem }
+    ensures ends { ProblemEnds Scheme.Guards problem (record { before = O.bytes out.old; after = O.bytes out.new })
+        (record { before = O.faults out.old; after = O.faults out.new }) result }
 {
-    match read_file(alloc, text) {
-        Ok(file) => Ok(file),
-        Err(ReadError::Memory) => Err(Stop::Memory),
-        Err(reason) => Err(Stop::Refused(Refusal::Reading(reason))),
-    }
-}
-
-fn type_check(alloc: Global, file: &File) -> Result<Problem, Stop>
-    requires { IsWithin file.now }
-    ensures typed { IfOk result (IsTyped file.now) }
-    ensures sound { IfOk result IsSound }
-    ensures cause { IfErr result (FileStops file.now) }
-{
-    match check(alloc, file) {
-        Ok(problem) => Ok(problem),
-        Err(TypeError::Memory) => Err(Stop::Memory),
-        Err(reason) => Err(Stop::Refused(Refusal::Typing(reason))),
-    }
-}
-
-/// The typed problem of the text.
-fn read_problem(alloc: Global, text: &[u8]) -> Result<Problem, Stop>
-    ensures problem { IfOk result (IsProblemOf text.now) }
-    ensures cause { IfErr result (TextStops text.now) }
-{
-    let file = read(alloc, text)?;
-    match type_check(alloc, &file) {
-        Ok(problem) => Ok(problem),
-        Err(stop) => Err(stop),
-    }
+    let how = How {
+        scheme: Scheme::Guards,
+        mono: false,
+        rounds: 3,
+        cap: 2000,
+    };
+    let prepared = prepare(alloc, problem, how)?;
+    encode_file(&prepared, out)?;
+    Ok(())
 }
 
 fn normal(alloc: Global, problem: &Problem) -> Result<Normal, Stop>
-    requires { IsSound problem.now }
+    requires sound { IsSound problem.now }
+    requires plain { IsTrue (is_plain problem.now) }
     ensures exact { IfOk result (λ normal. normal ≡ normal_of problem.now) }
     ensures within { IfOk result (λ normal. nodes_of problem.now ≤ most_nodes) }
-    ensures cause { IfErr result (ProblemStops problem.now) }
+    ensures sound { IfOk result IsSoundNormal }
+    ensures cause { IfErr result (ProblemStops Scheme.Erase problem.now) }
 {
     match normalise(alloc, problem) {
         Ok(normal) => Ok(normal),
         Err(NormalError::Memory) => Err(Stop::Memory),
-        Err(NormalError::TooLarge { nodes }) => Err(Stop::Refused(Refusal::TooManyNodes { nodes })),
+        Err(NormalError::TooLarge { nodes }) => Err(Stop::Refused(Fault::TooLarge { nodes })),
     }
 }
 
-/// The untyped problem of the text, where it is of the form that is built.
-pub fn translate(alloc: Global, text: &[u8]) -> Result<FofProblem, Stop>
-    ensures translated { IfOk result (IsTranslationOf text.now) }
-    ensures cause { IfErr result (TextStops text.now) }
+// The untyped problem of a plain problem. No other problem is taken.
+fn translate(alloc: Global, problem: &Problem) -> Result<FofProblem, Stop>
+    requires sound { IsSound problem.now }
+    requires named { HasWritableNames problem.now }
+    ensures translated { IfOk result (IsTranslationOf problem.now) }
+    ensures cause { IfErr result (ProblemStops Scheme.Erase problem.now) }
 {
-    let problem = read_problem(alloc, text)?;
-    if !is_plain(&problem) {
+    if !is_plain(problem) {
         return Err(Stop::NotBuilt);
     }
-    match normal(alloc, &problem) {
+    match normal(alloc, problem) {
         Ok(normal) => match erase(alloc, &normal) {
             Ok(untyped) => Ok(untyped),
             Err(NoMemory) => Err(Stop::Memory),
         },
         Err(stop) => Err(stop),
+    }
+}
+
+// Encodes a problem by leaving out its types.
+fn encode_by_erasure<O: Sink>(alloc: Global, problem: &Problem, out: &mut O) -> Result<(), Stop>
+    requires sound { IsSound problem.now }
+    requires named { HasWritableNames problem.now }
+    ensures ends { ProblemEnds Scheme.Erase problem.now (record { before = O.bytes out.old; after = O.bytes out.new })
+        (record { before = O.faults out.old; after = O.faults out.new }) result }
+{
+    let untyped = translate(alloc, problem)?;
+    let names = match Names::choose(alloc, untyped.signature.as_slice()) {
+        Ok(names) => names,
+        Err(NoMemory) => return Err(Stop::Memory),
+    };
+    match write_output(&Scheme::Erase, &untyped, &names, out) {
+        Ok(()) => Ok(()),
+        Err(Failed) => Err(Stop::Unwritten),
+    }
+}
+
+/// Writes the encoding of the text's problem by the scheme, where the scheme takes the problem.
+pub fn encode_text<O: Sink>(
+    alloc: Global,
+    which: Scheme,
+    text: &[u8],
+    out: &mut O,
+) -> Result<(), Stop>
+    ensures ends { TextEnds which text.now (record { before = O.bytes out.old; after = O.bytes out.new })
+        (record { before = O.faults out.old; after = O.faults out.new }) result }
+{
+    let problem = read_problem(alloc, text)?;
+    match which {
+        Scheme::Guards => encode_by_guards(alloc, problem, out),
+        Scheme::Erase => encode_by_erasure(alloc, &problem, out),
+        _ => Err(Stop::NotBuilt),
     }
 }

@@ -1,25 +1,12 @@
-//! Why a problem is refused.
+//! The exit status of a refusal.
 
 ghost use Rattle.std.specs.Prelude.{◌≡◌};
 ghost use Rattle.enc_run.specs.Refusals as spec;
 
+use enc_marks::Refusal;
+use enc_pipeline::Fault;
 use tf_check::TypeError;
-use thiserror::Error;
 use tptp_syntax::ReadError;
-
-/// Why the problem of a job is refused. No reason is want of memory.
-#[derive(Debug, Drop, Error)]
-pub enum Refusal {
-    /// The text spells no file within the limits.
-    #[error("{0}")]
-    Reading(ReadError),
-    /// The file is not well typed.
-    #[error("{0}")]
-    Typing(TypeError),
-    /// The normal problem has too many nodes: this number, or 2^64 - 1 where it is larger.
-    #[error("too many nodes {nodes}")]
-    TooManyNodes { nodes: u64 },
-}
 
 fn reading_status(reason: &ReadError) -> u8
     ensures { result ≡ spec.reading_status reason.now }
@@ -40,15 +27,28 @@ fn typing_status(reason: &TypeError) -> u8
     }
 }
 
-impl Refusal {
-    /// The exit status: 5 where a limit is passed, and 1 otherwise.
-    pub fn status(&self) -> u8
-        ensures { result ≡ spec.status_of self.now }
-    {
-        match self {
-            Refusal::Reading(reason) => reading_status(reason),
-            Refusal::Typing(reason) => typing_status(reason),
-            Refusal::TooManyNodes { .. } => 5,
-        }
+fn scheme_status(reason: &Refusal) -> u8
+    ensures { result ≡ spec.scheme_status reason.now }
+{
+    match reason {
+        Refusal::NotMonomorphic { .. } => 3,
+        Refusal::NotMonotone { .. } => 3,
+        Refusal::TableTooLarge { .. } => 5,
+        Refusal::Memory => 8,
+    }
+}
+
+/// The exit status: 5 where a limit is passed, 3 where the scheme doesn't apply, and 1 where there is
+/// no problem.
+pub fn status_of(reason: &Fault) -> u8
+    ensures { result ≡ spec.status_of reason.now }
+{
+    match reason {
+        Fault::Reading(reason) => reading_status(reason),
+        Fault::Typing(reason) => typing_status(reason),
+        Fault::TooLarge { .. } => 5,
+        Fault::Scheme(reason) => scheme_status(reason),
+        Fault::Write => 7,
+        Fault::Memory => 8,
     }
 }

@@ -37,38 +37,94 @@ fn see(alloc: Global, text: &str, line: &str, most: usize, failing: &[u64]) -> R
     })
 }
 
-const ENCODE: &str = "encode p --scheme erase";
+const ERASE: &str = "encode p --scheme erase";
+
+const GUARDS: &str = "encode p --scheme guards";
+
+// a file as a hammer writes it
+const LISTS: &str = "%--------------------------------------------------
+/* lists */
+tff(ty_list,type,(
+    list: $tType > $tType )).
+tff(ty_nat,type,(nat: $tType)).
+tff(sy_nil,type,nil: !>[A: $tType]: list(A)).
+tff(sy_cons,type,cons: !>[A: $tType]: ((A * list(A)) > list(A))).
+tff(sy_zero,type,zero: nat).
+tff(sy_mem,type,mem: !>[A: $tType]: ((A * list(A)) > $o)).
+tff(fact_0,axiom,(
+    ! [A: $tType,X: A,L: list(A)] : mem(A,X,cons(A,X,L)) ),
+    file('lists.thy',fact_0)).
+tff(goal,conjecture,
+    ? [L: list(nat)] : mem(nat,zero,L) ).
+";
+
+const GUARDED_LISTS: &str = "% tfenc guards complete
+fof(fact_0,axiom,![X0]: ![X1]: (is(X0,X1) => ![X2]: (is(list(X0),X2) => mem(X0,X1,cons(X0,X1,X2))))).
+fof(goal,negated_conjecture,![X0]: (is(list(nat),X0) => ~mem(nat,zero,X0))).
+fof(typing_nil,axiom,![X0]: is(list(X0),nil(X0))).
+fof(typing_cons,axiom,![X0]: ![X1]: ![X2]: ((is(X0,X1) & is(list(X0),X2)) => is(list(X0),cons(X0,X1,X2)))).
+fof(typing_zero,axiom,is(nat,zero)).
+fof(inhabitation,axiom,![X0]: ?[X1]: is(X0,X1)).
+";
 
 #[test]
-fn plain_problems_are_written(rt: HostRuntime) -> Result<(), Fail> {
-    for (text, formulas) in [
-        ("", ""),
+fn problems_are_written(rt: HostRuntime) -> Result<(), Fail> {
+    for (text, line, wanted) in [
+        ("", ERASE, "% tfenc erase complete\n"),
         (
             "fof(one,axiom,![X,Y]: X = Y).",
-            "fof(one,axiom,![X0]: ![X1]: X0 = X1).\n",
+            ERASE,
+            "% tfenc erase complete\nfof(one,axiom,![X0]: ![X1]: X0 = X1).\n",
         ),
-        ("fof(a,axiom,~ (p & q)).", "fof(a,axiom,(~p | ~q)).\n"),
+        (
+            "fof(a,axiom,~ (p & q)).",
+            ERASE,
+            "% tfenc erase complete\nfof(a,axiom,(~p | ~q)).\n",
+        ),
         (
             "fof(g,conjecture,p => q).",
-            "fof(g,negated_conjecture,(p & ~q)).\n",
+            ERASE,
+            "% tfenc erase complete\nfof(g,negated_conjecture,(p & ~q)).\n",
         ),
         (
             "fof(x,axiom,a <~> b).",
-            "fof(x,axiom,((a | b) & (~a | ~b))).\n",
+            ERASE,
+            "% tfenc erase complete\nfof(x,axiom,((a | b) & (~a | ~b))).\n",
         ),
         (
             "fof(q,axiom,p('abc') & p(abc) & 'A b').",
-            "fof(q,axiom,(p(abc) & p(abc) & 'A b')).\n",
+            ERASE,
+            "% tfenc erase complete\nfof(q,axiom,(p(abc) & p(abc) & 'A b')).\n",
         ),
         (
             "fof(two,axiom,![X]: ![X]: p(X)). tff(c,lemma,d = e).",
-            "fof(two,axiom,![X0]: ![X1]: p(X1)).\nfof(c,axiom,d = e).\n",
+            ERASE,
+            "% tfenc erase complete\nfof(two,axiom,![X0]: ![X1]: p(X1)).\nfof(c,axiom,d = e).\n",
         ),
-        ("tff(c,type,c: $i). tff(d,type,c: $i).", ""),
+        (
+            "tff(c,type,c: $i). tff(d,type,c: $i).",
+            ERASE,
+            "% tfenc erase complete\n",
+        ),
+        (
+            "",
+            GUARDS,
+            "% tfenc guards complete\nfof(inhabitation,axiom,![X0]: ?[X1]: is(X0,X1)).\n",
+        ),
+        (
+            "tff(go,conjecture,![A: $tType,X: A]: X = X).",
+            GUARDS,
+            "% tfenc guards complete\nfof(go,negated_conjecture,?[X0]: (is(fresh_0,X0) & X0 != X0)).\nfof(inhabitation,axiom,![X0]: ?[X1]: is(X0,X1)).\n",
+        ),
+        (
+            "fof(u,axiom,![X]: is(X)).",
+            GUARDS,
+            "% tfenc guards complete\nfof(u,axiom,![X0]: (is_0(ty_i,X0) => is(X0))).\nfof(inhabitation,axiom,![X0]: ?[X1]: is_0(X0,X1)).\n",
+        ),
+        (LISTS, "encode p", GUARDED_LISTS),
     ] {
-        let seen = see(rt.alloc(), text, ENCODE, 1000, &[])?;
+        let seen = see(rt.alloc(), text, line, 1000, &[])?;
         assert_eq!(rt; seen.status, 0, "at {text}");
-        let wanted = format!(in rt.alloc(); "% tfenc erase complete\n{formulas}")?;
         assert_eq!(rt; seen.out.as_slice(), wanted.as_bytes(), "at {text}");
         assert!(rt; seen.notes.is_empty());
     }
@@ -80,80 +136,87 @@ fn refusals_are_noted(rt: HostRuntime) -> Result<(), Fail> {
     for (text, line, status, note) in [
         (
             "fof(x,axiom,a & b | c).",
-            ENCODE,
+            ERASE,
             1,
             "tfenc: 3 syntax at 18\n",
         ),
-        ("fof(x,axiom,p#q).", ENCODE, 1, "tfenc: 1 bad byte at 13\n"),
-        ("fof(x,axiom,'p).", ENCODE, 1, "tfenc: 2 unclosed at 12\n"),
-        ("cnf(x,axiom,p).", ENCODE, 1, "tfenc: 5 language at 0\n"),
-        ("fof(x,unknown,p).", ENCODE, 1, "tfenc: 6 role at 6\n"),
-        ("fof(x,axiom,p(1)).", ENCODE, 1, "tfenc: 7 number at 14\n"),
-        ("include('a').", ENCODE, 1, "tfenc: 9 include at 0\n"),
+        ("fof(x,axiom,p#q).", ERASE, 1, "tfenc: 1 bad byte at 13\n"),
+        ("fof(x,axiom,'p).", ERASE, 1, "tfenc: 2 unclosed at 12\n"),
+        ("cnf(x,axiom,p).", ERASE, 1, "tfenc: 5 language at 0\n"),
+        ("fof(x,unknown,p).", ERASE, 1, "tfenc: 6 role at 6\n"),
+        ("fof(x,axiom,p(1)).", ERASE, 1, "tfenc: 7 number at 14\n"),
+        ("include('a').", ERASE, 1, "tfenc: 9 include at 0\n"),
         (
             "tff(a,type,a: $tType). tff(b,type,a: $i).",
-            ENCODE,
+            ERASE,
             1,
             "tfenc: 11 redeclared a in entry 1\n",
         ),
         (
             "tff(f,type,f: $o > $i).",
-            ENCODE,
+            ERASE,
             1,
             "tfenc: 12 bad declaration in entry 0\n",
         ),
         (
             "tff(c,type,c: nat).",
-            ENCODE,
+            ERASE,
             1,
             "tfenc: 13 unknown type nat in entry 0\n",
         ),
         (
             "fof(x,axiom,p(X)).",
-            ENCODE,
+            ERASE,
             1,
             "tfenc: 14 free variable X in entry 0\n",
         ),
         (
             "fof(x,axiom,p(c) & p(c,c)).",
-            ENCODE,
+            ERASE,
             1,
             "tfenc: 15 arity of p in entry 0, expected 1, found 2\n",
         ),
         (
             "tff(a,type,a: $tType). tff(c,type,c: a). tff(x,axiom,![X]: X = c).",
-            ENCODE,
+            ERASE,
             1,
             "tfenc: 16 type mismatch in entry 2\n",
         ),
         (
             "fof(x,axiom,p & q(p)).",
-            ENCODE,
+            ERASE,
             1,
             "tfenc: 17 not a term p in entry 0\n",
         ),
         (
             "fof(x,axiom,q(f) & f).",
-            ENCODE,
+            ERASE,
             1,
             "tfenc: 18 not a formula f in entry 0\n",
         ),
         (
             "tff(x,axiom,?[A: $tType]: p).",
-            ENCODE,
+            ERASE,
             1,
             "tfenc: 19 type quantifier in entry 0\n",
         ),
         (
             "fof(x,conjecture,p). fof(y,conjecture,q).",
-            ENCODE,
+            ERASE,
             1,
             "tfenc: 20 second conjecture in entry 1\n",
         ),
-        ("tff(a,type,a: $tType).", ENCODE, 9, "tfenc: not built\n"),
-        ("", "encode p", 9, "tfenc: not built\n"),
-        ("", "encode p --scheme guards", 9, "tfenc: not built\n"),
-        ("", "encode q --scheme erase", 6, "tfenc: cannot read q\n"),
+        ("tff(a,type,a: $tType).", ERASE, 9, "tfenc: not built\n"),
+        ("", "encode p --scheme tags", 9, "tfenc: not built\n"),
+        ("", "encode p --scheme", 9, "tfenc: not built\n"),
+        ("", "paint p", 9, "tfenc: not built\n"),
+        ("", "encode q", 6, "tfenc: cannot read q\n"),
+        (
+            "fof(x,axiom,p(X)).",
+            "encode p",
+            1,
+            "tfenc: 14 free variable X in entry 0\n",
+        ),
     ] {
         let seen = see(rt.alloc(), text, line, 1000, &[])?;
         assert_eq!(rt; seen.status, status, "at {text}");
@@ -182,7 +245,7 @@ fn cut_problems_are_refused_in_place(rt: HostRuntime) -> Result<(), Fail> {
         ("fof(x,axiom,a", "tfenc: 3 syntax at 13\n"),
         ("fof(x,axiom,a)", "tfenc: 3 syntax at 14\n"),
     ] {
-        let seen = see(rt.alloc(), text, ENCODE, 1000, &[])?;
+        let seen = see(rt.alloc(), text, ERASE, 1000, &[])?;
         assert_eq!(rt; seen.status, 1, "at {text}");
         assert_eq!(rt; seen.notes.as_slice(), note.as_bytes(), "at {text}");
         assert!(rt; seen.out.is_empty());
@@ -193,15 +256,17 @@ fn cut_problems_are_refused_in_place(rt: HostRuntime) -> Result<(), Fail> {
 #[test]
 fn failing_files_and_outputs_are_told(rt: HostRuntime) -> Result<(), Fail> {
     let text = "fof(one,axiom,![X,Y]: X = Y).";
-    let unread = see(rt.alloc(), text, ENCODE, 1000, &[1])?;
+    let unread = see(rt.alloc(), text, ERASE, 1000, &[1])?;
     assert_eq!(rt; unread.status, 6);
     assert_eq!(rt;
         unread.notes.as_slice(),
         b"tfenc: cannot read p\n".as_slice()
     );
-    let full = see(rt.alloc(), text, ENCODE, 10, &[])?;
-    assert_eq!(rt; full.status, 7);
-    assert_eq!(rt; full.out.as_slice(), b"% tfenc er".as_slice());
-    assert_eq!(rt; full.notes.as_slice(), b"tfenc: cannot write\n".as_slice());
+    for (text, line, written) in [(text, ERASE, "% tfenc er"), ("", GUARDS, "% tfenc gu")] {
+        let full = see(rt.alloc(), text, line, 10, &[])?;
+        assert_eq!(rt; full.status, 7);
+        assert_eq!(rt; full.out.as_slice(), written.as_bytes());
+        assert_eq!(rt; full.notes.as_slice(), b"tfenc: cannot write\n".as_slice());
+    }
     Ok(())
 }

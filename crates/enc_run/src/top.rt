@@ -6,15 +6,13 @@ ghost use Rattle.enc_base.specs.Library.{IsHeld, Gives};
 ghost use Rattle.enc_run.specs.Job.{job_of};
 ghost use Rattle.enc_run.specs.Work.{work_of};
 ghost use Rattle.enc_run.specs.Ending.{EndsBy, Ended, ReadsOnce, IsUnread};
-ghost use Rattle.enc_run.specs.Promises.{Headline, Complete, NotBuiltExactly, RefusedExactly, UnreadOnly, UnwrittenOnly, IsStatus, OutHolds, NotesHold};
+ghost use Rattle.enc_run.specs.Promises.{Headline, Complete, NotBuiltExactly, RefusedExactly, UnreadOnly, UnheldIsUnread, UnwrittenOnly, IsStatus, OutHolds, NotesHold};
 
 use crate::job::{Job, read_words};
 use crate::notes::write_note;
-use crate::output::write_output;
-use crate::problem::translate;
+use crate::problem::encode_text;
 use crate::{Stop, Text};
 use enc_base::{Library, NoMemory, ReadFault, Sink};
-use fof_text::Names;
 use std::alloc::Global;
 
 // The bytes of the named file.
@@ -43,18 +41,7 @@ fn encode<L: Library, O: Sink>(
     ensures counted { L.reads files.new ≡ one_more (L.reads files.old) }
 {
     let text = read_text(alloc, job.problem, files)?;
-    let problem = match translate(alloc, &text) {
-        Ok(problem) => problem,
-        Err(stop) => return Err(stop),
-    };
-    let names = match Names::choose(alloc, problem.signature.as_slice()) {
-        Ok(names) => names,
-        Err(NoMemory) => return Err(Stop::Memory),
-    };
-    match write_output(&problem, &names, out) {
-        Ok(()) => Ok(()),
-        Err(_) => Err(Stop::Unwritten),
-    }
+    encode_text(alloc, job.scheme, &text, out)
 }
 
 fn work<L: Library, O: Sink>(
@@ -109,6 +96,7 @@ pub fn run<L: Library, O: Sink, E: Sink>(
     ensures refused { RefusedExactly (work_of L.held L.faults L.reads L.own_faults O.bytes O.faults (job_of (map string_bytes words.now)) files.old files.new out.old out.new) result }
     ensures not_built { NotBuiltExactly (work_of L.held L.faults L.reads L.own_faults O.bytes O.faults (job_of (map string_bytes words.now)) files.old files.new out.old out.new) result }
     ensures unread { UnreadOnly (work_of L.held L.faults L.reads L.own_faults O.bytes O.faults (job_of (map string_bytes words.now)) files.old files.new out.old out.new) result }
+    ensures unheld { UnheldIsUnread (work_of L.held L.faults L.reads L.own_faults O.bytes O.faults (job_of (map string_bytes words.now)) files.old files.new out.old out.new) result }
     ensures unwritten { UnwrittenOnly (work_of L.held L.faults L.reads L.own_faults O.bytes O.faults (job_of (map string_bytes words.now)) files.old files.new out.old out.new) result }
     ensures out { OutHolds (work_of L.held L.faults L.reads L.own_faults O.bytes O.faults (job_of (map string_bytes words.now)) files.old files.new out.old out.new) result }
     ensures notes { NotesHold (work_of L.held L.faults L.reads L.own_faults O.bytes O.faults (job_of (map string_bytes words.now)) files.old files.new out.old out.new)

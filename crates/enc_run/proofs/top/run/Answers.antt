@@ -1,4 +1,4 @@
-use Rattle.enc_run.proofs.Readings.{is_complete, refused_exactly, not_built_exactly, unread_only, unwritten_only, out_holds, notes_hold, status_is_one}
+use Rattle.enc_run.proofs.Readings.{is_complete, refused_exactly, not_built_exactly, unread_only, unheld_is_unread, unwritten_only, out_holds, notes_hold, status_is_one}
 use Rattle.enc_run.proofs.Headline.{headline}
 use Rattle.enc_run.proofs.top.run.Goals as goal
 
@@ -16,6 +16,9 @@ returns-clause-not_built g c = not_built_exactly _ _ _ _ c.ended.ensures
 
 pub returns-clause-unread : goal.returns-clause-unread
 returns-clause-unread g c = unread_only _ _ _ _ c.ended.ensures
+
+pub returns-clause-unheld : goal.returns-clause-unheld
+returns-clause-unheld g c = unheld_is_unread _ _ _ _ c.ended.ensures
 
 pub returns-clause-unwritten : goal.returns-clause-unwritten
 returns-clause-unwritten g c = unwritten_only _ _ _ _ c.ended.ensures
