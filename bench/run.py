@@ -1,5 +1,5 @@
 #!/usr/bin/env python3
-"""Measures the built program: bench/run.py [reading|typing|encoding ..] [--most BYTES]
+"""Measures the built program: bench/run.py [reading|typing|encoding|guards ..] [--most BYTES]
 
 Each text of a family is made at doubling sizes. For each the table gives the time per byte of input, the peak memory per
 byte, and the ratio to the time of `wc -w` on the same file, the least of three runs in one sitting. A text ends in an
@@ -7,10 +7,12 @@ entry that is refused at the stage behind the one that is measured, so that only
   reading    the last word is refused
   typing     a second conjecture is refused
   encoding   nothing is refused, and the output is thrown away
+  guards     the typed lists are encoded by guards: the time is that per byte of output, and where the peer why3 is
+             installed its time for the same file by guards is told too, as a multiple
 Last come the greatest over the least time per byte of each family from 1 MiB on, and the targets that are missed."""
 import argparse
 import os
-import resource
+import shutil
 import subprocess
 import sys
 import tempfile
@@ -19,13 +21,14 @@ import time
 HERE = os.path.dirname(os.path.abspath(__file__))
 TFENC = os.path.join(os.path.dirname(HERE), 'tfenc')
 MOST = 16777216
+WHY3_DRIVER = '/usr/share/why3/drivers/eprover.drv'
 
 BAD_WORD = 'fof(last,axiom,p & .\n'
 TWO_CONJECTURES = 'fof(a,conjecture,p).\nfof(b,conjecture,p).\n'
 
 
-def typed_lists(size):
-    """The list problem with as many types, constants and predicates as fit."""
+def typed_lists(size, most=21000):
+    """The list problem with so many types, constants and predicates, or as many as fit and then axioms alone."""
     lines = [
         'tff(list,type,list: $tType > $tType).',
         'tff(nil,type,nil: !>[A: $tType]: list(A)).',
@@ -33,7 +36,7 @@ def typed_lists(size):
     ]
     length = sum(len(line) + 1 for line in lines)
     i = 0
-    while length < size and i < 21000:
+    while length < size and i < most:
         more = [
             f'tff(t{i},type,t{i}: $tType).',
             f'tff(c{i},type,c{i}: t{i}).',
@@ -44,7 +47,7 @@ def typed_lists(size):
         lines += more
         length += sum(len(line) + 1 for line in more)
         i += 1
-    while length < size:
+    while most == 21000 and length < size:
         line = f'tff(e,axiom,![A: $tType,X: A,L: list(A)]: (p0(A,X,L) => p1(A,X,cons(A,X,L)))).'
         lines.append(line)
         length += len(line) + 1
@@ -91,18 +94,53 @@ MEMORY = {'reading': 64, 'typing': None, 'encoding': 200}
 MOST_OF_WC = {'reading': 25}
 
 
-def measured(words):
+def measured(words, output=os.devnull):
     """The time in seconds, the peak memory in bytes and the status of a command."""
-    with open(os.devnull, 'wb') as null:
+    with open(output, 'wb') as out, open(os.devnull, 'wb') as null:
         begin = time.perf_counter()
-        child = subprocess.Popen(words, stdin=subprocess.DEVNULL, stdout=null, stderr=null)
+        child = subprocess.Popen(words, stdin=subprocess.DEVNULL, stdout=out, stderr=null)
         _, status, usage = os.wait4(child.pid, 0)
         return time.perf_counter() - begin, usage.ru_maxrss * 1024, os.waitstatus_to_exitcode(status)
 
 
-def best(words):
-    runs = [measured(words) for _ in range(3)]
-    return min(run[0] for run in runs), max(run[1] for run in runs), runs[0][2]
+def best(words, output=os.devnull, runs=3):
+    made = [measured(words, output) for _ in range(runs)]
+    return min(run[0] for run in made), max(run[1] for run in made), made[0][2]
+
+
+def guards(options, base, missed):
+    """The typed lists by guards, at three numbers of types and as a text of 16 MiB."""
+    print(f'{"guards":9} {"types":>12} {"bytes":>10} {"output":>10} {"ns/byte":>9} {"memory/byte":>12} {"why3":>9}')
+    times = []
+    goal = 'tff(go,conjecture,p0(t0,c0,cons(t0,c0,nil(t0)))).\n'
+    for types in (50, 500, 2000, None):
+        text = typed_lists(options.most - len(goal) - 200) if types is None else typed_lists(MOST, types)
+        text += goal
+        with tempfile.TemporaryDirectory() as folder:
+            file, output = os.path.join(folder, 'p.p'), os.path.join(folder, 'out')
+            with open(file, 'w') as out:
+                out.write(text)
+            seconds, memory, status = best([TFENC, 'encode', file], output)
+            written = os.path.getsize(output)
+            peer = ''
+            if types is not None and shutil.which('why3') and os.path.exists(WHY3_DRIVER):
+                words = ['why3', 'prove', '-F', 'tptp', '-D', WHY3_DRIVER, '-M', 'enco_poly=guards', file]
+                theirs, _, their_status = best(words, runs=1)
+                peer = f'{theirs / seconds:.0f} times' if their_status == 0 else f'status {their_status}'
+                if types == 2000 and their_status == 0 and theirs < 20 * seconds:
+                    missed.append(f'guards {types}: why3 takes {theirs / seconds:.1f} times the time')
+        room = max(0, memory - base) / len(text)
+        per_byte = seconds / max(1, written)
+        if types != 50:
+            times.append(per_byte)
+            if room > 300:
+                missed.append(f'guards {types}: {room:.1f} bytes of memory per byte')
+        if status != 0:
+            missed.append(f'guards {types}: status {status}')
+        print(f'{"guards":9} {types or "16 MiB":>12} {len(text):10} {written:10} {per_byte * 1e9:9.1f} {room:12.1f} {peer:>9}')
+        sys.stdout.flush()
+    if max(times) > 2 * min(times):
+        missed.append(f'guards: {max(times) / min(times):.1f} times the least time per byte of output')
 
 
 def main():
@@ -113,7 +151,10 @@ def main():
     missed = []
     base = measured([TFENC])[1]
     print(f'{"stage":9} {"family":12} {"bytes":>10} {"ns/byte":>9} {"memory/byte":>12} {"times wc -w":>12}')
-    for stage in options.stages or FAMILIES:
+    for stage in options.stages or [*FAMILIES, 'guards']:
+        if stage == 'guards':
+            guards(options, base, missed)
+            continue
         for family, make in FAMILIES[stage].items():
             times = []
             size = min(options.most, MOST) // 32
