@@ -7,5 +7,9 @@ pub mod Counting
 pub mod BlockOrder
 pub mod MembersOfTypes
 pub mod CountedBlocks
-pub mod ClosedTypes
+pub mod ProductSums
+pub mod TypeVariables
+pub mod Grouping
+pub mod GroupedCounts
+pub mod CountedGroups
 pub mod SampleFacts

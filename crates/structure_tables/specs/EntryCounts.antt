@@ -1,12 +1,7 @@
 -- How many numbers the tables of a structure hold.
-use Rattle.std.specs.Prelude.{ℕ, ◌+◌, Bool, false, List, replicate, sum, sum_by}
-use Rattle.std.specs.List.{list_all}
+use Rattle.std.specs.Prelude.{ℕ, ◌+◌, List, replicate, sum, sum_by}
 use Rattle.enc_base.specs.Tables.{tuple_count, total}
 use Rattle.fof_models.specs.declared.problem.FofSymbol.{FofSymbol}
-use Rattle.tf_core.specs.declared.ty.Ty.{Ty}
-use Rattle.tf_core.specs.declared.ty.Ty.TheOpen.{Ty-F}
-use Rattle.tf_core.specs.declared.ty.Ty.TheOpen as layer
-use Rattle.tf_core.specs.declared.ty.Ty.TheFolds.{fold-Ty}
 use Rattle.tf_core.specs.declared.signature.Symbol.{Symbol}
 use Rattle.tf_core.specs.declared.signature.Signature.{Signature}
 use Rattle.tf_core.specs.Structures.{Typed, member_count, argument_sizes}
@@ -29,12 +24,3 @@ typed_count g s =
     sum s.sizes
     + sum_by (λ constructor. tuple_count (replicate constructor.arity (member_count s))) g.constructors
     + sum_by (symbol_count s) g.symbols
-
--- whether no variable stands in a type
-
-abbrev pub is_closed_step : Ty-F Bool → Bool
-is_closed_step (layer.Var i) = false
-is_closed_step (layer.Apply c closed) = list_all (λ part. part) closed
-
-unfoldable pub is_closed : Ty → Bool
-is_closed = fold-Ty Bool is_closed_step

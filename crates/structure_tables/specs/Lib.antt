@@ -3,4 +3,5 @@ pub mod Laws
 pub mod TupleOrder
 pub mod Sources
 pub mod EntryCounts
+pub mod ParameterGroups
 pub mod Samples

@@ -27,3 +27,8 @@ as_large f members elements =
 -- two members, of two elements and of three
 abbrev pub pair : Typed
 pair = record { sizes = 2 ∷ 3 ∷ []; constructor_at = other_member; symbol_at = as_large }
+
+-- members of these sizes, where each constructor gives the first member and each symbol the first
+-- element
+abbrev pub firsts : List ℕ → Typed
+firsts sizes = record { sizes = sizes; constructor_at = λ c members. 0; symbol_at = λ f members elements. 0 }

@@ -18,7 +18,7 @@ pub fn untyped_entries(size: u64, signature: &[FofSymbol]) -> u64
 }
 
 /// How many tuples of so many numbers below a bound there are, or 2^64 - 1 where there are more.
-pub(crate) fn count_tuples(bound: u64, count: u32) -> u64
+pub fn count_tuples(bound: u64, count: u32) -> u64
     ensures exact { result ≡ in_64_bits (tuple_count (replicate count bound)) }
 {
     if bound == 1 || count == 0 {
@@ -33,6 +33,17 @@ pub(crate) fn count_tuples(bound: u64, count: u32) -> u64
         if tuples == u64::MAX {
             return tuples;
         }
+    }
+    tuples
+}
+
+/// The product of bounds, or 2^64 - 1 where it is more.
+pub(crate) fn multiply(bounds: &[u32]) -> u64
+    ensures exact { result ≡ in_64_bits (tuple_count bounds.now) }
+{
+    let mut tuples = 1u64;
+    for bound in bounds {
+        tuples = tuples.saturating_mul(*bound as u64);
     }
     tuples
 }

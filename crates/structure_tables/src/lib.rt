@@ -3,6 +3,8 @@
 
 mod blocks;
 mod counts;
+mod group_counts;
+mod groups;
 mod laws;
 #[cfg(test)]
 mod tests;
@@ -12,8 +14,8 @@ mod typed_counts;
 mod types;
 mod untyped;
 
-pub use counts::untyped_entries;
+pub use counts::{count_tuples, untyped_entries};
 pub use laws::{normal_models_are_tabled, typed_tables_are_functions};
 pub use typed::{TypedSource, tabulate_typed};
-pub use typed_counts::typed_entries;
+pub use typed_counts::{add_sizes, entries_of_constructors, entries_of_symbol, typed_entries};
 pub use untyped::{UntypedSource, tabulate};

@@ -1,9 +1,10 @@
 //! That calls succeed while memory is left, and that tables and counts are those worked out by hand.
 
-ghost use Rattle.std.specs.Prelude.{List};
+ghost use Rattle.std.specs.Prelude.{List, ◌<◌, ◌^◌, length};
+ghost use Rattle.std.specs.List.{All};
 ghost use Rattle.fof_models.specs.declared.problem.FofSymbol.{FofSymbol};
 ghost use Rattle.tf_core.specs.declared.signature.Signature.{Signature};
-ghost use Rattle.structure_tables.specs.Samples.{numbers, pair};
+ghost use Rattle.structure_tables.specs.Samples.{numbers, pair, firsts};
 
 use crate::counts::untyped_entries;
 use crate::typed::{TypedSource, tabulate_typed};
@@ -12,6 +13,7 @@ use crate::untyped::{UntypedSource, tabulate};
 use enc_base::{List, Name};
 use fof_models::FofSymbol;
 use std::alloc::Global;
+use std::process::Abort;
 use std::test::Fail;
 use tf_core::{Constructor, Signature, Symbol, Ty};
 
@@ -207,5 +209,98 @@ fn a_pair_has_the_tables_worked_out(rt: HostRuntime) -> Result<(), Fail> {
         [1, 1, 1, 1, 1, 1, 0, 1, 0, 1, 0, 1].as_slice()
     );
     assert_eq!(rt; symbols[2].as_slice(), [1, 1, 0, 1].as_slice());
+    Ok(())
+}
+
+/// Members of these sizes, of which everything is the first.
+#[derive(Drop)]
+struct Firsts<'a> {
+    signature: &'a Signature,
+    sizes: &'a [u32],
+}
+
+impl TypedSource for Firsts<'_> {
+    ghost signature = { λ it. it.signature.now };
+
+    ghost structure = { λ it. firsts it.sizes.now };
+
+    ghost is_ready = { λ _. Unit {0} };
+
+    fn constructor_value(&self, _: u32, _: &[u32]) -> u32 {
+        0
+    }
+
+    fn symbol_value(&self, _: u32, _: &[u32], _: &[u32]) -> u32 {
+        0
+    }
+}
+
+/// A type variable for each of so many parameters.
+fn variables(alloc: Global, parameters: u32) -> Result<List<Ty>, Fail> {
+    let mut types = List::new(alloc);
+    for i in 0..parameters {
+        types.push(Ty::Var(i))?;
+    }
+    Ok(types)
+}
+
+/// How many entries a predicate of these argument types has over members of these sizes, with the
+/// sizes, `$i` and a constructor of two arguments counted in.
+fn entries_of(
+    rt: &impl Abort,
+    alloc: Global,
+    sizes: &[u32],
+    parameters: u32,
+    arguments: List<Ty>,
+) -> Result<u64, Fail>
+    requires some { 0 < length sizes.now }
+    requires few { length sizes.now < 2 ^ 32 }
+    requires positive { All (λ size. 0 < size) sizes.now }
+{
+    let constructors = vec![in alloc;
+        Constructor {
+            name: Name::from_slice(alloc, b"$i")?,
+            arity: 0
+        },
+        Constructor {
+            name: Name::from_slice(alloc, b"both")?,
+            arity: 2
+        },
+    ]?;
+    let symbols = vec![in alloc;
+        Symbol {
+            name: Name::from_slice(alloc, b"p")?,
+            parameters,
+            arguments,
+            result: None,
+        },
+    ]?;
+    let signature = Signature {
+        constructors: List::from_vec(constructors),
+        symbols: List::from_vec(symbols),
+    };
+    assert!(rt; signature.check());
+    let source = Firsts {
+        signature: &signature,
+        sizes,
+    };
+    Ok(typed_entries(alloc, &signature, sizes, &source)?)
+}
+
+#[test]
+fn entries_are_a_product_over_groups_of_parameters(rt: HostRuntime) -> Result<(), Fail> {
+    let alloc = rt.alloc();
+    let thirty = entries_of(&rt, alloc, &[1, 2], 30, variables(alloc, 30)?)?;
+    assert_eq!(rt; thirty, 3 + 1 + 4 + 205_891_132_094_649);
+    let forty = entries_of(&rt, alloc, &[1, 1, 2], 40, variables(alloc, 40)?)?;
+    assert_eq!(rt; forty, u64::MAX);
+    let types = vec![in alloc;
+        Ty::Apply(1, variables(alloc, 2)?),
+        Ty::Var(1),
+        Ty::Var(2),
+        Ty::Apply(0, List::new(alloc)),
+    ]?;
+    let groups = entries_of(&rt, alloc, &[1, 2], 4, List::from_vec(types))?;
+    assert_eq!(rt; groups, 3 + 1 + 4 + (2 * 3) * 3 * 2);
     Ok(())
 }

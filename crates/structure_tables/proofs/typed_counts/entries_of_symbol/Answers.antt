@@ -1,36 +1,44 @@
-use Rattle.std.proofs.Common.{◌∙◌, ◌*◌, length, sym, ap, subst, replicate}
-use Rattle.std.specs.List.{list_all}
+use Rattle.std.proofs.Common.{◌≡◌, ◌≤◌, ◌∙◌, length, sym, ap, subst, arith, replicate}
+use Rattle.std.specs.Prelude.{IfOk}
 use Rattle.enc_base.specs.Tables.{EachBelow, tuple_count}
 use Rattle.tf_core.specs.Structures.{member_count, argument_sizes}
 use Rattle.tf_models.specs.Evaluation.{in_64_bits}
-use Rattle.structure_tables.specs.EntryCounts.{is_closed}
+use Rattle.structure_tables.specs.EntryCounts.{symbol_count}
 use Rattle.structure_tables.proofs.BlockOrder.{first_below}
-use Rattle.structure_tables.proofs.ClosedTypes.{symbol_count-closed}
-use Rattle.structure_tables.proofs.Counting.{in_64_bits-factors}
+use Rattle.structure_tables.proofs.ProductSums.{total-single}
+use Rattle.structure_tables.proofs.GroupedCounts.{symbol_count-grows}
 use Rattle.structure_tables.proofs.typed_counts.entries_of_symbol.Goals as goal
+
+pub returns-then-tuples : goal.returns-then-tuples
+returns-then-tuples g c =
+    let s = g.S.TypedSource.structure c.args.source.now in
+    let symbol = c.args.symbol.now in
+    let counted = ap (λ sizes. in_64_bits (tuple_count (replicate symbol.parameters (length sizes))))
+    c.requires.sized.same in
+    let grows : tuple_count (replicate symbol.parameters (member_count s)) ≤ symbol_count s symbol =
+    symbol_count-grows (g.S.TypedSource.signature c.args.source.now) s c.requires.sized.fits symbol
+    c.requires.typed in
+    omega (arith, c.count_tuples-tuples.ensures.exact, c.if-tuples.true, counted, grows)
 
 pub entries_of_block-requires-clause-members : goal.entries_of_block-requires-clause-members
 entries_of_block-requires-clause-members g c =
     let s = g.S.TypedSource.structure c.args.source.now in
     subst (EachBelow (replicate c.args.symbol.now.parameters (member_count s)))
-    (sym (c.as_slice-2.ensures.value ∙ c.in_ok-members.ensures))
+    (sym (c.as_slice.ensures.value ∙ c.in_ok-members.ensures))
     (first_below c.args.symbol.now.parameters (member_count s) c.requires.sized.fits.some)
 
-pub returns : goal.returns
-returns g c =
+pub returns-then-tuples-eq1 : goal.returns-then-tuples-eq1
+returns-then-tuples-eq1 g c =
     let s = g.S.TypedSource.structure c.args.source.now in
-    let count = c.args.symbol.now.parameters in
-    let members = c.as_slice-2.result.now in
-    let closed = sym (c.are_closed.ensures ∙ ap (list_all is_closed) c.as_slice.ensures)
-    ∙ c.if-not-are_closed.false in
-    c.saturating_mul.ensures
-    ∙ ap (λ n. in_64_bits (n * c.in_ok-block.block)) c.count_tuples.ensures.exact
-    ∙ ap
-    (λ n. in_64_bits (in_64_bits (tuple_count (replicate count (length c.args.sizes.now))) * n))
-    c.in_ok-block.ensures
-    ∙ in_64_bits-factors (tuple_count (replicate count (length c.args.sizes.now)))
-    (tuple_count (argument_sizes s c.args.symbol.now members))
-    ∙ ap
-    (λ sizes. in_64_bits (tuple_count (replicate count (length sizes))
-    * tuple_count (argument_sizes s c.args.symbol.now members))) c.requires.sized.same
-    ∙ ap in_64_bits (sym (symbol_count-closed s c.args.symbol.now members closed))
+    let symbol = c.args.symbol.now in
+    let counted = ap (λ sizes. in_64_bits (tuple_count (replicate symbol.parameters (length sizes))))
+    c.requires.sized.same in
+    let single : tuple_count (replicate symbol.parameters (member_count s)) ≡ 1 =
+    omega (arith, c.count_tuples-tuples.ensures.exact, c.if-tuples-eq1.true, counted) in
+    let alone : symbol_count s symbol ≡ tuple_count (argument_sizes s symbol c.as_slice.result.now) =
+    total-single symbol.parameters (member_count s)
+    (λ members. tuple_count (argument_sizes s symbol members)) single
+    ∙ ap (λ members. tuple_count (argument_sizes s symbol members))
+    (sym (c.as_slice.ensures.value ∙ c.in_ok-members.ensures)) in
+    subst (λ n. IfOk c.entries_of_block.result (λ entries. entries ≡ in_64_bits n)) (sym alone)
+    c.entries_of_block.ensures

@@ -1,6 +1,6 @@
 use Rattle.std.proofs.Common.{refl, ◌∙◌}
 use Rattle.structure_tables.proofs.Counting.{factor_more}
-use Rattle.structure_tables.proofs.typed_counts.multiply.Goals as goal
+use Rattle.structure_tables.proofs.counts.multiply.Goals as goal
 
 pub loop-bound-preserved : goal.loop-bound-preserved
 loop-bound-preserved c =
