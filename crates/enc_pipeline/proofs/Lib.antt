@@ -1,4 +1,13 @@
 pub mod Headline
 pub mod FileProblems
+pub mod DistinctNames
 pub mod EncodedNames
 pub mod Guarded
+pub mod Ready
+pub mod Stops
+pub mod Carry
+pub mod FirstOnes
+pub mod OneTable
+pub mod OneAnswer
+pub mod Numbers
+pub mod Rewritten

@@ -2,4 +2,9 @@ pub mod Reading
 pub mod Way
 pub mod Output
 pub mod Causes
+pub mod Distinct
 pub mod Ready
+pub mod Carried
+pub mod Carrying
+pub mod Stopped
+pub mod Laws

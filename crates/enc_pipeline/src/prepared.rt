@@ -1,4 +1,4 @@
-ghost use Rattle.std.specs.Prelude.{◌≡◌, ◌≤◌, ◌↔◌, length, OnOk, OnErr, IfOk, IfErr};
+ghost use Rattle.std.specs.Prelude.{◌≡◌, ◌≤◌, ◌↔◌, true, false, length, OnOk, OnErr, IfOk, IfErr};
 ghost use Rattle.std.specs.Io.KnownBytes.{Appends};
 ghost use Rattle.enc_base.specs.Counts.{Rose};
 ghost use Rattle.enc_base.specs.Sink.{AppendsPrefix};
@@ -14,12 +14,15 @@ ghost use Rattle.enc_marks.specs.Schemes.{choices_of};
 ghost use Rattle.enc_pipeline.specs.Way.{Preparation, IsInRange, IsBuilt};
 ghost use Rattle.enc_pipeline.specs.Output as specs;
 ghost use Rattle.enc_pipeline.specs.Causes.{nodes_of, IsUnprepared};
+ghost use Rattle.enc_pipeline.specs.Carried as carried;
+ghost use Rattle.enc_pipeline.specs.Distinct.{HasDistinctNames};
+ghost use Rattle.enc_pipeline.specs.Ready.{IsPrepared};
 ghost use Rattle.enc_pipeline.specs.declared.how.How.{How};
 
 use crate::output::write_output;
 use crate::{Fault, How};
 use enc_base::{Failed, Sink};
-use enc_marks::{Encoded, Refusal};
+use enc_marks::{Encoded, Scheme};
 use fof_text::Names;
 use std::alloc::Global;
 use std::marker::Model;
@@ -51,6 +54,49 @@ impl Model for Prepared {
     ghost invariant = { λ p. IsReady p.problem p.how p.normal p.encoded p.names };
 }
 
+// the parts of a prepared problem, for those that carry its models
+impl Prepared {
+    /// The problem.
+    pub(crate) fn problem(&self) -> &Problem
+        ensures exact { result.now ≡ self.now.problem }
+        ensures prepared { IsPrepared self.now }
+    {
+        &self.problem
+    }
+
+    /// The scheme by which it is encoded.
+    pub(crate) fn scheme(&self) -> &Scheme
+        ensures exact { result.now ≡ self.now.how.scheme }
+        ensures prepared { IsPrepared self.now }
+    {
+        &self.how.scheme
+    }
+
+    /// The normal problem.
+    pub(crate) fn normal(&self) -> &Normal
+        ensures exact { result.now ≡ normal_of self.now.problem }
+        ensures prepared { IsPrepared self.now }
+    {
+        &self.normal
+    }
+
+    /// The translation.
+    pub(crate) fn encoded(&self) -> &Encoded
+        ensures exact { result.now ≡ specs.translated self.now.how.scheme self.now.problem }
+        ensures prepared { IsPrepared self.now }
+    {
+        &self.encoded
+    }
+
+    /// The names of the translation's symbols.
+    pub(crate) fn names(&self) -> &Names
+        ensures exact { result.now ≡ carried.names self.now }
+        ensures prepared { IsPrepared self.now }
+    {
+        &self.names
+    }
+}
+
 // the normal problem
 fn normalised(alloc: Global, problem: &Problem) -> Result<Normal, Fault>
     requires sound { IsSound problem.now }
@@ -74,7 +120,7 @@ fn encoded(alloc: Global, how: &How, normal: &Normal) -> Result<Encoded, Fault>
     ensures applies { IfOk result (λ made. Applies how.now.scheme normal.now) }
     ensures cause { IfErr result (λ fault. fault ≡ Fault.Memory) }
 {
-    match enc_guards::encode(alloc, enc_marks::Scheme::Guards, normal) {
+    match enc_guards::encode(alloc, Scheme::Guards, normal) {
         Ok(made) => Ok(made),
         Err(_) => Err(Fault::Memory),
     }
@@ -83,11 +129,13 @@ fn encoded(alloc: Global, how: &How, normal: &Normal) -> Result<Encoded, Fault>
 /// Makes all that encoding a problem in a way needs. The problem is taken, and dropped where it is
 /// refused.
 ///
-/// The problem is to be sound and its names such as can be written, which holds of each problem that
-/// is read; the way is to be built, and its numbers those that the command line takes.
+/// The problem is to be sound, and its names such as can be written and tell its symbols apart, which
+/// holds of each problem that is read; the way is to be built, and its numbers those that the command
+/// line takes.
 pub fn prepare(alloc: Global, problem: Problem, how: How) -> Result<Prepared, Fault>
     requires sound { IsSound problem }
     requires named { HasWritableNames problem }
+    requires distinct { HasDistinctNames problem }
     requires range { IsInRange how }
     requires built { IsBuilt how }
     ensures exact { IfOk result (λ prepared. prepared ≡ record { problem = problem; how = how }) }
@@ -112,6 +160,19 @@ pub fn prepare(alloc: Global, problem: Problem, how: How) -> Result<Prepared, Fa
             names,
         }),
         Err(_) => Err(Fault::Memory),
+    }
+}
+
+/// Structures over instances can't be carried back to the problem: the ways of `--mono` are refused.
+/// Takes no memory.
+pub fn lifts(prepared: &Prepared) -> Result<(), Fault>
+    ensures taken { OnOk result (prepared.now.how.mono ≡ false) }
+    ensures refused { IfErr result (λ fault. (fault ≡ Fault.Incomplete) × (prepared.now.how.mono ≡ true)) }
+{
+    if prepared.how.mono {
+        Err(Fault::Incomplete)
+    } else {
+        Ok(())
     }
 }
 

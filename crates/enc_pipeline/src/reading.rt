@@ -4,6 +4,7 @@ ghost use Rattle.tf_check.specs.Limits.{IsWithin};
 ghost use Rattle.tf_check.specs.Typing.{IsTyped};
 ghost use Rattle.tf_check.specs.Writable.{HasWritableNames};
 ghost use Rattle.tf_core.specs.Sound.{IsSound};
+ghost use Rattle.enc_pipeline.specs.Distinct.{HasDistinctNames};
 ghost use Rattle.enc_pipeline.specs.Reading.{HasProblem};
 ghost use Rattle.enc_pipeline.specs.Causes.{IsUnreadable, IsIllTyped};
 
@@ -42,6 +43,7 @@ pub fn read_problem(alloc: Global, text: &[u8]) -> Result<Problem, Fault>
     ensures exact { IfOk result (HasProblem text.now) }
     ensures sound { IfOk result IsSound }
     ensures named { IfOk result HasWritableNames }
+    ensures distinct { IfOk result HasDistinctNames }
     ensures refused { IfErr result (IsUnreadable text.now) }
 {
     let file = read(alloc, text)?;

@@ -163,3 +163,96 @@ fn models_go_to_translations_and_back(rt: HostRuntime) -> Result<(), Fail> {
     assert!(rt; lifted.same(&wanted), "lifted");
     Ok(())
 }
+
+const CODES_TABLE: &str = "typed 1.
+sizes 2 1.
+type $i = 0.
+type pair = 1 1 1 1.
+type code = 0.
+symbol id = 0 1.
+symbol fst = 0 0 1 1.
+";
+
+const SORTS: &str = "tff(a,type,a: $tType).
+    tff(b,type,b: $tType).
+    tff(e,type,e: $tType).
+    tff(q,type,q: b > $o).
+    tff(r,type,r: e > $o).
+    tff(one,axiom,![X: a,Y: a]: X = Y).
+    tff(two,axiom,![X: b]: q(X)).
+    tff(three,axiom,?[X: e,Y: e]: (r(X) & ~ r(Y))).";
+
+const SORTS_TABLE: &str = "typed 1. sizes 1 1 3. type $i = 0. type a = 0. type b = 1. type e = 2.
+symbol q = 1. symbol r = 1 0 0.";
+
+/// A problem that is prepared for guards.
+fn guarded(alloc: Global, text: &str) -> Result<Prepared, Fail> {
+    let how = How {
+        scheme: Scheme::Guards,
+        mono: false,
+        rounds: 3,
+        cap: 2000,
+    };
+    Ok(prepare(alloc, read_problem(alloc, text.as_bytes())?, how)?)
+}
+
+/// What is written for a table of a model that is lowered, and what is for that again.
+fn there_and_back(
+    alloc: Global,
+    prepared: &Prepared,
+    table: &str,
+) -> Result<(MemorySink, MemorySink), Fail> {
+    let mut lowered = MemorySink::new(alloc, 100_000, List::new(alloc))?;
+    lower_file(alloc, prepared, table.as_bytes(), &mut lowered)?;
+    let mut lifted = MemorySink::new(alloc, 100_000, List::new(alloc))?;
+    lift_file(alloc, prepared, lowered.written(), &mut lifted)?;
+    Ok((lowered, lifted))
+}
+
+#[test]
+fn lifted_tables_are_of_models(rt: HostRuntime) -> Result<(), Fail> {
+    let alloc = rt.alloc();
+    for (text, table) in [(CODES, CODES_TABLE), (SORTS, SORTS_TABLE)] {
+        let prepared = guarded(alloc, text)?;
+        let mut out = MemorySink::new(alloc, 1000, List::new(alloc))?;
+        check_file(alloc, prepared.problem(), table.as_bytes(), &mut out)?;
+        let (_, lifted) = there_and_back(alloc, &prepared, table)?;
+        check_file(alloc, prepared.problem(), lifted.written(), &mut out)?;
+        assert_eq!(rt; out.written(), "model\nmodel\n".as_bytes());
+    }
+    Ok(())
+}
+
+#[test]
+fn tables_are_written_in_order(rt: HostRuntime) -> Result<(), Fail> {
+    let alloc = rt.alloc();
+    let (lowered, lifted) = there_and_back(alloc, &guarded(alloc, SORTS)?, SORTS_TABLE)?;
+    let wanted = "untyped 1.\nsize 8.\n\
+        predicate q = 1 1 1 1 1 1 1 1.\npredicate r = 1 1 1 1 1 1 0 0.\n\
+        function a = 0.\nfunction b = 1.\nfunction e = 2.\n\
+        predicate is = 0 0 0 1 0 0 0 0 0 0 0 0 1 0 0 0 0 0 0 0 0 1 1 1 \
+        0 0 0 1 0 0 0 0 0 0 0 0 1 0 0 0 0 0 0 0 0 1 1 1 \
+        0 0 0 0 0 1 1 1 0 0 0 0 0 1 1 1.\n";
+    assert_eq!(rt; lowered.written(), wanted.as_bytes());
+    let wanted = "typed 1.\nsizes 1 1 3 1 1 3 3 3.\n\
+        type $i = 0.\ntype a = 0.\ntype b = 1.\ntype e = 2.\n\
+        symbol q = 1.\nsymbol r = 1 0 0.\n";
+    assert_eq!(rt; lifted.written(), wanted.as_bytes());
+    Ok(())
+}
+
+#[test]
+fn a_table_that_is_no_model_is_refused(rt: HostRuntime) -> Result<(), Fail> {
+    let alloc = rt.alloc();
+    let prepared = guarded(alloc, SORTS)?;
+    let table = "typed 1. sizes 1 1 3. type $i = 0. type a = 2. type b = 1. type e = 0.
+        symbol q = 1. symbol r = 0.";
+    let mut out = MemorySink::new(alloc, 1000, List::new(alloc))?;
+    let answer = check_file(alloc, prepared.problem(), table.as_bytes(), &mut out);
+    assert!(rt;
+        matches!(answer, Err(Fault::NotModel { formula: 0 })),
+        "the first axiom"
+    );
+    assert_eq!(rt; out.written().len(), 0);
+    Ok(())
+}

@@ -5,7 +5,7 @@ use Rattle.tf_core.specs.TypedTables.{HasFiniteModel}
 use Rattle.fof_text.specs.States.{TextHasFiniteModel}
 use Rattle.enc_pipeline.specs.Way.{Preparation}
 use Rattle.enc_pipeline.specs.Output.{output}
-use Rattle.enc_pipeline.proofs.Guarded.{ready_sound, ready_named, ready_text, ready_headline}
+use Rattle.enc_pipeline.proofs.Ready.{ready_sound, ready_named, ready_text, headline}
 use Rattle.enc_pipeline.proofs.prepared.encode_file.Goals as goal
 
 pub write_output-requires-clause-sound : goal.write_output-requires-clause-sound
@@ -17,12 +17,12 @@ write_output-requires-clause-named g c = ready_named _ _ _ _ _ c.prepared.invari
 pub returns-in-Ok-clause-headline : goal.returns-in-Ok-clause-headline
 returns-in-Ok-clause-headline g c =
     subst (λ (p : Preparation). TextHasFiniteModel (output p) ↔ HasFiniteModel p.problem)
-    c.prepared.view_is (ready_headline _ _ _ _ _ c.prepared.invariant)
+    c.prepared.view_is (headline _ c.prepared.invariant.prepared)
 
 pub returns-in-Err-clause-headline : goal.returns-in-Err-clause-headline
 returns-in-Err-clause-headline g c =
     subst (λ (p : Preparation). TextHasFiniteModel (output p) ↔ HasFiniteModel p.problem)
-    c.prepared.view_is (ready_headline _ _ _ _ _ c.prepared.invariant)
+    c.prepared.view_is (headline _ c.prepared.invariant.prepared)
 
 pub returns-in-Err-clause-within : goal.returns-in-Err-clause-within
 returns-in-Err-clause-within g c =

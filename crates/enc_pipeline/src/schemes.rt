@@ -1,0 +1,65 @@
+//! The schemes, each by its own crate.
+
+ghost use Rattle.std.specs.Prelude.{◌≡◌, ◌≤◌, ◌<◌, ◌^◌, length, IfOk, IfErr};
+ghost use Rattle.tf_core.specs.Sound.{IsSoundNormal};
+ghost use Rattle.tf_core.specs.TypedTables.{AreNormalModel};
+ghost use Rattle.tf_models.specs.Reading.{tables};
+ghost use Rattle.fof_models.specs.Models.{AreModel};
+ghost use Rattle.tf_stamp.specs.Most.{most_entries};
+ghost use Rattle.enc_marks.specs.Encoded as encoding;
+ghost use Rattle.enc_marks.specs.Schemes.{choices_of};
+ghost use Rattle.enc_models.specs.Lowered.{lowered, lowered_entries, IsRefused};
+ghost use Rattle.enc_models.specs.LiftedTables.{lifted_tables, lifted_entries, IsLiftRefused};
+
+use enc_marks::{Encoded, Refusal, Scheme};
+use fof_models::Structure;
+use std::alloc::Global;
+use tf_core::Normal;
+use tf_models::TypedStructure;
+
+/// The untyped model that a model of the normal problem gives of its translation.
+pub(crate) fn lower(
+    alloc: Global,
+    which: &Scheme,
+    normal: &Normal,
+    encoded: &Encoded,
+    model: &TypedStructure,
+) -> Result<Structure, Refusal>
+    requires built { which.now ≡ Scheme.Guards }
+    requires sound { IsSoundNormal normal.now }
+    requires encoded { encoded.now ≡ encoding.encoded (choices_of which.now normal.now) normal.now }
+    requires model { AreNormalModel normal.now (tables model.now) }
+    requires few { length model.now.sizes < 2 ^ 32 }
+    ensures model { IfOk result (AreModel encoded.now.problem) }
+    ensures exact { IfOk result (λ s. s ≡ lowered (choices_of which.now normal.now) normal.now (tables model.now)) }
+    ensures within { IfOk result (λ s. lowered_entries (choices_of which.now normal.now) normal.now (tables model.now) ≤ most_entries) }
+    ensures refused { IfErr result (IsRefused (choices_of which.now normal.now) normal.now (tables model.now)) }
+{
+    match which {
+        Scheme::Guards => enc_guards::lower(alloc, Scheme::Guards, normal, encoded, model),
+        _ => unreachable!(),
+    }
+}
+
+/// The typed model that a model of the translation gives of the normal problem.
+pub(crate) fn lift(
+    alloc: Global,
+    which: &Scheme,
+    normal: &Normal,
+    encoded: &Encoded,
+    model: &Structure,
+) -> Result<TypedStructure, Refusal>
+    requires built { which.now ≡ Scheme.Guards }
+    requires sound { IsSoundNormal normal.now }
+    requires encoded { encoded.now ≡ encoding.encoded (choices_of which.now normal.now) normal.now }
+    requires model { AreModel encoded.now.problem model.now }
+    ensures model { IfOk result (λ t. AreNormalModel normal.now (tables t)) }
+    ensures exact { IfOk result (λ t. tables t ≡ lifted_tables (choices_of which.now normal.now) normal.now model.now) }
+    ensures within { IfOk result (λ t. lifted_entries (choices_of which.now normal.now) normal.now model.now ≤ most_entries) }
+    ensures refused { IfErr result (IsLiftRefused (choices_of which.now normal.now) normal.now model.now) }
+{
+    match which {
+        Scheme::Guards => enc_guards::lift(alloc, Scheme::Guards, normal, encoded, model),
+        _ => unreachable!(),
+    }
+}
