@@ -1,5 +1,5 @@
 -- The headline: what was written has a finite model exactly when the problem has a finite typed one.
-use Rattle.std.proofs.Common.{◌≡◌, ◌≤◌, ◌∙◌, ℕ, true, List, sym, subst}
+use Rattle.std.proofs.Common.{◌≡◌, ◌≤◌, ◌∙◌, ℕ, true, List, refl, sym, subst}
 use Rattle.std.specs.Prelude.{◌↔◌, Option}
 use Rattle.std.specs.Io.KnownBytes.{Appends}
 use Rattle.tptp_syntax.proofs.OneAnswer.{one_file}
@@ -22,13 +22,16 @@ use Rattle.enc_pipeline.proofs.Guarded.{guarded_headline}
 use Rattle.enc_pipeline.proofs.Headline.{text_and_problem}
 use Rattle.enc_run.specs.Plain.{is_plain}
 use Rattle.enc_run.specs.Erased.{erased}
-use Rattle.enc_run.specs.Refusals.{IsEncodedAs, is_taken, untyped_problem}
+use Rattle.enc_run.specs.Leads.{IsOutputOf, encodes, untyped_problem}
 use Rattle.enc_run.specs.Work.{Change, Work}
 use Rattle.enc_run.specs.Ending.{Ended}
 use Rattle.enc_run.specs.Promises.{IsEncoded, Headline}
+use Rattle.enc_run.specs.declared.job.Task.{Task}
+use Rattle.enc_run.specs.declared.job.Task.TheVariants.{Encode}
 use Rattle.enc_run.proofs.ErasedModels.{plain_models_are_untyped_models}
 use Rattle.enc_run.proofs.ErasedSound.{IsSound-erased}
-use Rattle.enc_run.proofs.Readings.{told, whole}
+use Rattle.enc_run.proofs.Readings.{whole}
+use Rattle.enc_run.proofs.Told.{told_text}
 use Rattle.enc_run.proofs.PlainNormal.{is_plain_normal-normal_of}
 use Rattle.enc_run.proofs.WritableNames.{named_translation}
 
@@ -47,7 +50,7 @@ module _ (problem : Problem) (sound : IsSound problem) (writable : HasWritableNa
       (is_plain_normal-normal_of problem plain))
 
   -- the same for each scheme and each problem that it takes
-  models : (which : Scheme) → is_taken which problem ≡ true →
+  models : (which : Scheme) → encodes which problem ≡ true →
       TextHasFiniteModel (output_of which (untyped_problem which problem)) ↔ HasFiniteModel problem
   models scheme.Guards taken = guarded_headline problem sound writable within
   models scheme.Tags taken = absurd cc
@@ -58,17 +61,17 @@ module _ (problem : Problem) (sound : IsSound problem) (writable : HasWritableNa
   models scheme.GuardsLight taken = absurd cc
   models scheme.TagsLight taken = absurd cc
 
-encoded : (which : Scheme) (text output : List ℕ) (out : Change (Option (List ℕ)))
-    → IsEncodedAs which output text → Appends out.before out.after output
+encoded : (which : Scheme) (text table output : List ℕ) (out : Change (Option (List ℕ)))
+    → IsOutputOf (Encode which) output text table → Appends out.before out.after output
     → IsEncoded which text out
-encoded which text output out is written =
+encoded which text table output out is written =
     let problem = is.0 in
-    let has = is.1 in
+    let has = is.1.has in
     let file = has.0 in
     let spells = spells_of text file has.1 in
     let sound = typed_sound file problem (is_within text file has.1) has.2 in
     let writable = has_writable_names text problem has in
-    let together = models problem sound writable is.3 which is.2 in
+    let together = models problem sound writable (is.1.within refl) which is.1.taken in
     record {
       file = file;
       spells = spells;
@@ -78,17 +81,18 @@ encoded which text output out is written =
       only_problem = λ other typed.
           typed-problem_of file other typed ∙ sym (typed-problem_of file problem has.2);
       output = output;
-      translated = is.4;
+      translated = is.2;
       written = written;
       models = (
-        λ m. together.0 (subst TextHasFiniteModel is.4 m),
-        λ m. subst TextHasFiniteModel (sym is.4) (together.1 m),
+        λ m. together.0 (subst TextHasFiniteModel is.2 m),
+        λ m. subst TextHasFiniteModel (sym is.2) (together.1 m),
       );
     }
 
 pub headline : (w : Work) (notes : Change (Option (List ℕ))) (notes_faults : Change ℕ) (status : ℕ)
     → Ended w notes notes_faults status → Headline w status
-headline w notes notes_faults status ended job text is_told is =
+headline w notes notes_faults status ended job which text is_told is_task is =
     let done = whole w ended.end ended.ends (ended.status_is ∙ is) in
-    encoded job.scheme text done.0 w.out
-    (told w (λ which. IsEncodedAs which done.0) job text done.1 is_told) done.2
+    let has = told_text w (λ task. IsOutputOf task done.0) job text done.1 is_told in
+    encoded which text has.0 done.0 w.out
+    (subst (λ (task : Task). IsOutputOf task done.0 text has.0) is_task has.2) done.2

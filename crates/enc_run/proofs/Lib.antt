@@ -13,3 +13,10 @@ pub mod PlainSignature
 pub mod WritableNames
 pub mod Translated
 pub mod Headline
+pub mod TextEndings
+pub mod RunEndings
+pub mod TableLaws
+pub mod Told
+pub mod Statuses
+pub mod Noted
+pub mod TablePromises

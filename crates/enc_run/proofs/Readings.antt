@@ -1,152 +1,42 @@
--- What a run promises follows from how it ended.
-use Rattle.std.proofs.Common.{◌≡◌, ◌⊎◌, ◌++◌, inl, inr, ℕ, List, Option, Some, None, Result, Ok, Err, refl, sym, ap, subst, ◌∙◌, is_some, arith}
-use Rattle.std.specs.Prelude.{[], IsSome, IsSomeAnd}
-use Rattle.std.specs.FinMap.{get}
+-- What a run promises of its status and its output follows from how it ended.
+use Rattle.std.proofs.Common.{◌≡◌, ◌⊎◌, inl, inr, ℕ, List, Option, Some, None, Ok, Err, refl, ap, subst, arith}
 use Rattle.std.specs.Io.KnownBytes.{Appends, Keeps}
-use Rattle.std.proofs.lemmas.Option.{same_Some}
-use Rattle.enc_base.specs.Library.{Files, Holds, Gives, IsHeld}
+use Rattle.enc_base.specs.Library.{Files, IsHeld}
 use Rattle.enc_base.specs.Sink.{AppendsPrefix}
-use Rattle.tptp_syntax.specs.declared.error.ReadError.{ReadError}
-use Rattle.tptp_syntax.specs.declared.error.ReadError.TheVariants as reading
-use Rattle.tf_check.specs.declared.error.TypeError.{TypeError}
-use Rattle.tf_check.specs.declared.error.TypeError.TheVariants as typing
-use Rattle.enc_marks.specs.declared.scheme.Scheme.{Scheme}
 use Rattle.enc_pipeline.specs.declared.fault.Fault.{Fault}
-use Rattle.enc_pipeline.specs.declared.fault.Fault.TheVariants as fault
-use Rattle.enc_run.specs.Refusals.{IsRefusedBy, IsUnbuilt, IsEncodedAs, status_of, reading_status, typing_status, number_of}
-use Rattle.enc_run.specs.Note.{program_word, line, not_built, cannot_read, cannot_write, no_memory}
-use Rattle.enc_run.specs.Work.{Change, Work, Rises, OwnRises, IsTold}
-use Rattle.enc_run.specs.Ending.{OfText, EndsBy, status_at, Noted, Ended}
-use Rattle.enc_run.specs.Promises.{IsOrMemory, Complete, NotBuiltExactly, RefusedExactly, UnreadOnly, UnheldIsUnread, UnwrittenOnly, IsStatus, OutHolds, NotesHold, Adds}
+use Rattle.enc_run.specs.Ending.{OfText, EndsBy, IsOutput, status_at, Ended}
+use Rattle.enc_run.specs.Job.{table_name}
+use Rattle.enc_run.specs.Leads.{IsRefusedBy, IsTableRefusedBy, IsUnbuilt, IsAcceptable, IsOutputOf}
+use Rattle.enc_run.specs.Promises.{IsOrMemory, Complete, NotBuiltExactly, RefusedExactly, UnreadOnly, UnheldIsUnread, UnwrittenOnly, IsStatus, OutHolds, NotesHold}
+use Rattle.enc_run.specs.Refusals.{status_of}
+use Rattle.enc_run.specs.Work.{Change, Work, HasTable, OwnRises, IsTold, AreTold, NoneFails}
 use Rattle.enc_run.specs.declared.job.Job.{Job}
-use Rattle.enc_run.specs.declared.stop.Stop.{Stop}
+use Rattle.enc_run.specs.declared.job.Task.{Task}
 use Rattle.enc_run.specs.declared.stop.Stop.TheVariants.{NotBuilt, Unread, Refused, Unwritten, Memory}
-use Rattle.enc_run.proofs.Exclusive.{refused_not_unbuilt, refused_not_encoded, unbuilt_not_encoded, refused_once}
-
--- ---- jobs and their texts
-
-same_job : (w : Work) (a b : Job) → w.job ≡ Some a → w.job ≡ Some b → a ≡ b
-same_job w a b is_a is_b = same_Some a b (sym is_a ∙ is_b)
-
--- a told text is the one that is read
-same_text : (held : Option Files) (name text read : List ℕ) → Gives held name [] read
-    → Holds held name text → read ≡ text
-same_text None name text read gives holds = absurd holds
-same_text (Some files) name text read gives holds =
-    subst (λ (found : Option (List ℕ)). IsSomeAnd found (λ bytes. read ≡ bytes)) holds gives
-
--- what holds of the job's text holds of the text that is told
-pub told : (w : Work) (Holding : Scheme → List ℕ → Type 0) (job : Job) (text : List ℕ)
-    → OfText w Holding → IsTold w job text → Holding job.scheme text
-told w Holding job text of is_told =
-    let same = same_job w job of.0 is_told.job_is of.1 in
-    let holds = subst (λ (j : Job). Holds w.held j.problem text) same is_told.holds in
-    subst (λ (j : Job). Holding j.scheme text) (sym same)
-    (subst (Holding of.0.scheme) (same_text w.held of.0.problem text of.2.0 of.2.1 holds) of.2.2)
-
-is_held : (held : Option Files) (name text : List ℕ) → Holds held name text → IsHeld held name
-is_held None name text holds = absurd holds
-is_held (Some files) name text holds = ap is_some holds
-
--- a failed read of a file that is held raises its own count
-troubled : (w : Work) (name : List ℕ) (job : Job) (text : List ℕ) (read : Job)
-    → w.job ≡ Some read → read.problem ≡ name → (IsHeld w.held name → OwnRises w name)
-    → IsTold w job text → OwnRises w job.problem
-troubled w name job text read is_read is_name own is_told =
-    let same = same_job w job read is_told.job_is is_read in
-    let name_is : job.problem ≡ name = ap (λ (j : Job). j.problem) same ∙ is_name in
-    let held = is_held w.held job.problem text is_told.holds in
-    subst (λ n. OwnRises w n) (sym name_is) (own (subst (λ n. IsHeld w.held n) name_is held))
-
-no_job : (w : Work) (job : Job) → w.job ≡ None → w.job ≡ Some job → ⊥
-no_job w job none some = cc
-
--- ---- statuses
-
-reading_statuses : (reason : ReadError) → (reading_status reason ≡ 1) ⊎ (reading_status reason ≡ 5)
-reading_statuses (reading.TooDeep at) = inr refl
-reading_statuses (reading.TooLong bytes) = inr refl
-reading_statuses (reading.BadByte at) = inl refl
-reading_statuses (reading.Unclosed at) = inl refl
-reading_statuses (reading.Syntax at) = inl refl
-reading_statuses (reading.Language at) = inl refl
-reading_statuses (reading.Role at) = inl refl
-reading_statuses (reading.Number at) = inl refl
-reading_statuses (reading.DistinctObject at) = inl refl
-reading_statuses (reading.Include at) = inl refl
-reading_statuses reading.Memory = inl refl
-
-typing_statuses : (reason : TypeError) → (typing_status reason ≡ 1) ⊎ (typing_status reason ≡ 5)
-typing_statuses (typing.TooManySymbols count) = inr refl
-typing_statuses (typing.Redeclared entry name) = inl refl
-typing_statuses (typing.BadDeclaration entry) = inl refl
-typing_statuses (typing.UnknownType entry name) = inl refl
-typing_statuses (typing.FreeVariable entry name) = inl refl
-typing_statuses (typing.Arity entry name expected found) = inl refl
-typing_statuses (typing.Mismatch entry expected found) = inl refl
-typing_statuses (typing.NotATerm entry name) = inl refl
-typing_statuses (typing.NotAFormula entry name) = inl refl
-typing_statuses (typing.TypeQuantifier entry) = inl refl
-typing_statuses (typing.SecondConjecture entry) = inl refl
-typing_statuses typing.Memory = inl refl
-
-refusal_statuses : (which : Scheme) (reason : Fault) (text : List ℕ) → IsRefusedBy which reason text
-    → (status_of reason ≡ 1) ⊎ (status_of reason ≡ 5)
-refusal_statuses which (fault.Reading reason) text refused = reading_statuses reason
-refusal_statuses which (fault.Typing reason) text refused = typing_statuses reason
-refusal_statuses which (fault.TooLarge nodes) text refused = inr refl
-refusal_statuses which (fault.Scheme reason) text refused = absurd refused
-refusal_statuses which fault.Write text refused = absurd refused
-refusal_statuses which fault.Memory text refused = absurd refused
-
-abbrev RefusesText : Work → Fault → Type 0
-RefusesText w reason = OfText w (λ which. IsRefusedBy which reason)
-
--- a refusal has no status but 1 and 5
-not_refusal : (w : Work) (reason : Fault) (status : ℕ) → RefusesText w reason
-    → status_of reason ≡ status → (status ≡ 1 → ⊥) → (status ≡ 5 → ⊥) → ⊥
-not_refusal w reason status of is no_one no_five =
-    elim (refusal_statuses of.0.scheme reason of.2.0 of.2.2) [
-      | inl one ↦ no_one (sym is ∙ one)
-      | inr five ↦ no_five (sym is ∙ five)
-    ]
-
-is_status : (w : Work) (end : Result (Unit {0}) Stop) → EndsBy w end → IsStatus (status_at end)
-is_status w (Ok done) ends = inl refl
-is_status w (Err (Refused reason)) ends =
-    elim (refusal_statuses ends.0.0.scheme reason ends.0.2.0 ends.0.2.2) [
-      | inl one ↦ inr (inl one)
-      | inr five ↦ inr (inr (inl five))
-    ]
-is_status w (Err (Unread name)) ends = inr (inr (inr (inl refl)))
-is_status w (Err Unwritten) ends = inr (inr (inr (inr (inl refl))))
-is_status w (Err Memory) ends = inr (inr (inr (inr (inr (inl refl)))))
-is_status w (Err NotBuilt) ends = inr (inr (inr (inr (inr (inr refl)))))
-
-abbrev End : Type 0
-End = Result (Unit {0}) Stop
+use Rattle.enc_run.proofs.Exclusive.{refused_not_unbuilt, refused_not_accepted, unbuilt_not_accepted, table_refused_accepted, output_accepted, refused_once, table_refused_once, table_refused_not_output}
+use Rattle.enc_run.proofs.Noted.{notes_of}
+use Rattle.enc_run.proofs.Statuses.{End, not_refusal, is_status, only_refused}
+use Rattle.enc_run.proofs.Told.{no_job, told, told_both, told_text, text_is_held, table_is_held, table_unread, table_fails}
 
 -- ---- the output
 
 pub whole : (w : Work) (end : End) → EndsBy w end → status_at end ≡ 0
-    → (output : List ℕ) × OfText w (λ which. IsEncodedAs which output)
-    × Appends w.out.before w.out.after output
+    → (output : List ℕ) × IsOutput w output × Appends w.out.before w.out.after output
 whole w (Ok done) ends is = ends
 whole w (Err NotBuilt) ends is = absurd (omega arith)
 whole w (Err (Unread name)) ends is = absurd (omega arith)
 whole w (Err (Refused reason)) ends is =
-    absurd (not_refusal w reason 0 ends.0 is (λ one. omega arith) (λ five. omega arith))
+    absurd (not_refusal w reason 0 ends.0 is (λ low high. omega arith))
 whole w (Err Unwritten) ends is = absurd (omega arith)
 whole w (Err Memory) ends is = absurd (omega arith)
 
 prefix : (w : Work) (end : End) → EndsBy w end → status_at end ≡ 7
-    → (output : List ℕ) × OfText w (λ which. IsEncodedAs which output)
-    × AppendsPrefix w.out.before w.out.after output
+    → (output : List ℕ) × IsOutput w output × AppendsPrefix w.out.before w.out.after output
 prefix w (Ok done) ends is = absurd (omega arith)
 prefix w (Err NotBuilt) ends is = absurd (omega arith)
 prefix w (Err (Unread name)) ends is = absurd (omega arith)
 prefix w (Err (Refused reason)) ends is =
-    absurd (not_refusal w reason 7 ends.0 is (λ one. omega arith) (λ five. omega arith))
+    absurd (not_refusal w reason 7 ends.0 is (λ low high. omega arith))
 prefix w (Err Unwritten) ends is = ends.0.0
 prefix w (Err Memory) ends is = absurd (omega arith)
 
@@ -164,12 +54,9 @@ kept w (Err Memory) ends not_done not_failed = ends.1
 unread : (w : Work) (end : End) → EndsBy w end → UnreadOnly w (status_at end)
 unread w (Ok done) ends is = absurd (omega arith)
 unread w (Err NotBuilt) ends is = absurd (omega arith)
-unread w (Err (Unread name)) ends is =
-    let job = ends.0.0 in
-    let own = ends.0.4 in
-    (job, ends.0.1, ends.0.3, subst (λ n. IsHeld w.held n → OwnRises w n) (sym ends.0.2) own)
+unread w (Err (Unread name)) ends is = (name, ends.0.0, ends.0.1)
 unread w (Err (Refused reason)) ends is =
-    absurd (not_refusal w reason 6 ends.0 is (λ one. omega arith) (λ five. omega arith))
+    absurd (not_refusal w reason 6 ends.0 is (λ low high. omega arith))
 unread w (Err Unwritten) ends is = absurd (omega arith)
 unread w (Err Memory) ends is = absurd (omega arith)
 
@@ -178,244 +65,213 @@ unwritten w (Ok done) ends is = absurd (omega arith)
 unwritten w (Err NotBuilt) ends is = absurd (omega arith)
 unwritten w (Err (Unread name)) ends is = absurd (omega arith)
 unwritten w (Err (Refused reason)) ends is =
-    absurd (not_refusal w reason 7 ends.0 is (λ one. omega arith) (λ five. omega arith))
+    absurd (not_refusal w reason 7 ends.0 is (λ low high. omega arith))
 unwritten w (Err Unwritten) ends is = ends.0.1
 unwritten w (Err Memory) ends is = absurd (omega arith)
 
--- ---- a name that isn't held
+-- ---- names that aren't held
 
--- a text that is read from a library that tells its files is held
-is_some_of : (found : Option (List ℕ)) (P : List ℕ → Type 0) → IsSomeAnd found P → IsSome found
-is_some_of None P some = absurd some
-is_some_of (Some bytes) P some = refl
+abbrev ToTable : (Task → List ℕ → List ℕ → Type 0) → Work → Task → List ℕ → Type 0
+ToTable Holding w task text = (table : List ℕ) × HasTable w task table × Holding task text table
 
-read_is_held : (held : Option Files) (files : Files) (name read : List ℕ) → held ≡ Some files
-    → Gives held name [] read → IsHeld held name
-read_is_held None files name read is_told gives = absurd cc
-read_is_held (Some told_files) files name read is_told gives =
-    is_some_of (get told_files name) (λ bytes. read ≡ bytes) gives
-
-text_is_held : (w : Work) (Holding : Scheme → List ℕ → Type 0) (job : Job) (files : Files)
-    → w.job ≡ Some job → w.held ≡ Some files → OfText w Holding → IsHeld w.held job.problem
-text_is_held w Holding job files is_job is_told of =
-    let same = same_job w of.0 job of.1 is_job in
-    subst (λ (j : Job). IsHeld w.held j.problem) same
-    (read_is_held w.held files of.0.problem of.2.0 is_told of.2.1)
-
-unheld : (w : Work) (end : End) → EndsBy w end → UnheldIsUnread w (status_at end)
+unheld : (w : Work) (end : End) → EndsBy w end → (job : Job) (files : Files) → w.job ≡ Some job
+    → w.held ≡ Some files → (IsHeld w.held job.problem → ⊥) → IsOrMemory 6 (status_at end)
 unheld w (Ok done) ends job files is_job is_told none =
-    absurd (none (text_is_held w (λ which. IsEncodedAs which ends.0) job files is_job is_told ends.1))
+    absurd (none (text_is_held w (ToTable (λ task. IsOutputOf task ends.0) w) job files is_job
+    is_told ends.1))
 unheld w (Err NotBuilt) ends job files is_job is_told none = elim ends.0 [
   | inl jobless ↦ absurd (no_job w job jobless is_job)
   | inr of ↦ absurd (none (text_is_held w IsUnbuilt job files is_job is_told of))
 ]
 unheld w (Err (Unread name)) ends job files is_job is_told none = inl refl
-unheld w (Err (Refused reason)) ends job files is_job is_told none =
-    absurd (none (text_is_held w (λ which. IsRefusedBy which reason) job files is_job is_told
-    ends.0))
+unheld w (Err (Refused reason)) ends job files is_job is_told none = elim ends.0 [
+  | inl of ↦ absurd (none (text_is_held w (λ task. IsRefusedBy task reason) job files is_job is_told
+      of))
+  | inr of ↦ absurd (none (text_is_held w (ToTable (λ task. IsTableRefusedBy task reason) w) job
+      files is_job is_told of))
+]
 unheld w (Err Unwritten) ends job files is_job is_told none =
-    absurd (none (text_is_held w (λ which. IsEncodedAs which ends.0.0.0) job files is_job is_told
-    ends.0.0.1))
+    absurd (none (text_is_held w (ToTable (λ task. IsOutputOf task ends.0.0.0) w) job files is_job
+    is_told ends.0.0.1))
 unheld w (Err Memory) ends job files is_job is_told none = inr refl
+
+unheld_table : (w : Work) (end : End) → EndsBy w end → (job : Job) (text name : List ℕ)
+    → IsTold w job text → (OwnRises w job.problem → ⊥) → IsAcceptable job.task text
+    → table_name job.task ≡ Some name → (IsHeld w.held name → ⊥) → IsOrMemory 6 (status_at end)
+unheld_table w (Ok done) ends job text name is_told untroubled acceptable is_name none =
+    let has = told_text w (λ task. IsOutputOf task ends.0) job text ends.1 is_told in
+    absurd (none (table_is_held w job text name has.0 is_told is_name has.1))
+unheld_table w (Err NotBuilt) ends job text name is_told untroubled acceptable is_name none =
+    elim ends.0 [
+      | inl jobless ↦ absurd (no_job w job jobless is_told.job_is)
+      | inr of ↦ absurd (unbuilt_not_accepted job.task text (told w IsUnbuilt job text of is_told)
+          acceptable)
+    ]
+unheld_table w (Err (Unread unread)) ends job text name is_told untroubled acceptable is_name none =
+    inl refl
+unheld_table w (Err (Refused reason)) ends job text name is_told untroubled acceptable is_name none =
+    elim ends.0 [
+      | inl of ↦ absurd (refused_not_accepted job.task text reason
+          (told w (λ task. IsRefusedBy task reason) job text of is_told) acceptable)
+      | inr of ↦
+          let has = told_text w (λ task. IsTableRefusedBy task reason) job text of is_told in
+          absurd (none (table_is_held w job text name has.0 is_told is_name has.1))
+    ]
+unheld_table w (Err Unwritten) ends job text name is_told untroubled acceptable is_name none =
+    let has = told_text w (λ task. IsOutputOf task ends.0.0.0) job text ends.0.0.1 is_told in
+    absurd (none (table_is_held w job text name has.0 is_told is_name has.1))
+unheld_table w (Err Memory) ends job text name is_told untroubled acceptable is_name none = inr refl
 
 -- ---- want of a job
 
 at_words : (w : Work) (end : End) → EndsBy w end → w.job ≡ None → IsOrMemory 9 (status_at end)
 at_words w (Ok done) ends none = absurd (no_job w ends.1.0 none ends.1.1)
 at_words w (Err NotBuilt) ends none = inl refl
-at_words w (Err (Unread name)) ends none = absurd (no_job w ends.0.0 none ends.0.1)
-at_words w (Err (Refused reason)) ends none = absurd (no_job w ends.0.0 none ends.0.1)
+at_words w (Err (Unread name)) ends none = elim ends.0.0 [
+  | inl of ↦ absurd (no_job w of.0 none of.1)
+  | inr of ↦ absurd (no_job w of.0 none of.1)
+]
+at_words w (Err (Refused reason)) ends none = elim ends.0 [
+  | inl of ↦ absurd (no_job w of.0 none of.1)
+  | inr of ↦ absurd (no_job w of.0 none of.1)
+]
 at_words w (Err Unwritten) ends none = absurd (no_job w ends.0.0.1.0 none ends.0.0.1.1)
 at_words w (Err Memory) ends none = inr refl
 
+only_unbuilt : (w : Work) (end : End) → EndsBy w end → status_at end ≡ 9
+    → (w.job ≡ None) ⊎ OfText w IsUnbuilt
+only_unbuilt w (Ok done) ends is = absurd (omega arith)
+only_unbuilt w (Err NotBuilt) ends is = ends.0
+only_unbuilt w (Err (Unread name)) ends is = absurd (omega arith)
+only_unbuilt w (Err (Refused reason)) ends is =
+    absurd (not_refusal w reason 9 ends.0 is (λ low high. omega arith))
+only_unbuilt w (Err Unwritten) ends is = absurd (omega arith)
+only_unbuilt w (Err Memory) ends is = absurd (omega arith)
+
 -- ---- told texts
 
-only_unbuilt : (w : Work) (end : End) → EndsBy w end → (job : Job) (text : List ℕ)
-    → IsTold w job text → status_at end ≡ 9 → IsUnbuilt job.scheme text
-only_unbuilt w (Ok done) ends job text is_told is = absurd (omega arith)
-only_unbuilt w (Err NotBuilt) ends job text is_told is = elim ends.0 [
-  | inl none ↦ absurd (no_job w job none is_told.job_is)
-  | inr of ↦ told w IsUnbuilt job text of is_told
-]
-only_unbuilt w (Err (Unread name)) ends job text is_told is = absurd (omega arith)
-only_unbuilt w (Err (Refused reason)) ends job text is_told is =
-    absurd (not_refusal w reason 9 ends.0 is (λ one. omega arith) (λ five. omega arith))
-only_unbuilt w (Err Unwritten) ends job text is_told is = absurd (omega arith)
-only_unbuilt w (Err Memory) ends job text is_told is = absurd (omega arith)
+-- what holds of the problem's text alone, where an output is made or a table refused
 
-abbrev IsRefusal : ℕ → Type 0
-IsRefusal status = (status ≡ 1) ⊎ (status ≡ 5)
-
-only_refused : (w : Work) (end : End) → EndsBy w end → IsRefusal (status_at end)
-    → (reason : Fault) × RefusesText w reason × (status_of reason ≡ status_at end)
-    × (end ≡ Err (Refused reason))
-only_refused w (Err (Refused reason)) ends is = (reason, ends.0, refl, refl)
-only_refused w (Ok done) ends is = absurd (other is)
-  where
-    other : IsRefusal 0 → ⊥
-    other (inl one) = omega arith
-    other (inr five) = omega arith
-only_refused w (Err NotBuilt) ends is = absurd (other is)
-  where
-    other : IsRefusal 9 → ⊥
-    other (inl one) = omega arith
-    other (inr five) = omega arith
-only_refused w (Err (Unread name)) ends is = absurd (other is)
-  where
-    other : IsRefusal 6 → ⊥
-    other (inl one) = omega arith
-    other (inr five) = omega arith
-only_refused w (Err Unwritten) ends is = absurd (other is)
-  where
-    other : IsRefusal 7 → ⊥
-    other (inl one) = omega arith
-    other (inr five) = omega arith
-only_refused w (Err Memory) ends is = absurd (other is)
-  where
-    other : IsRefusal 8 → ⊥
-    other (inl one) = omega arith
-    other (inr five) = omega arith
+accepted_output : (w : Work) (output : List ℕ) (job : Job) (text : List ℕ) → IsOutput w output
+    → IsTold w job text → IsAcceptable job.task text
+accepted_output w output job text of is_told =
+    let has = told_text w (λ task. IsOutputOf task output) job text of is_told in
+    output_accepted job.task text output has.0 has.2
 
 at_unbuilt : (w : Work) (end : End) → EndsBy w end → (job : Job) (text : List ℕ)
-    → IsTold w job text → (OwnRises w job.problem → ⊥) → IsUnbuilt job.scheme text
+    → IsTold w job text → (OwnRises w job.problem → ⊥) → IsUnbuilt job.task text
     → IsOrMemory 9 (status_at end)
 at_unbuilt w (Ok done) ends job text is_told untroubled unbuilt =
-    absurd (unbuilt_not_encoded job.scheme text ends.0 unbuilt
-    (told w (λ which. IsEncodedAs which ends.0) job text ends.1 is_told))
+    absurd (unbuilt_not_accepted job.task text unbuilt
+    (accepted_output w ends.0 job text ends.1 is_told))
 at_unbuilt w (Err NotBuilt) ends job text is_told untroubled unbuilt = inl refl
 at_unbuilt w (Err (Unread name)) ends job text is_told untroubled unbuilt =
-    absurd (untroubled (troubled w name job text ends.0.0 ends.0.1 ends.0.2 ends.0.4 is_told))
-at_unbuilt w (Err (Refused reason)) ends job text is_told untroubled unbuilt =
-    absurd (refused_not_unbuilt job.scheme text reason
-    (told w (λ which. IsRefusedBy which reason) job text ends.0 is_told) unbuilt)
+    let table = table_unread w name job text ends.0.0 ends.0.1 is_told untroubled in
+    absurd (unbuilt_not_accepted job.task text unbuilt table.1)
+at_unbuilt w (Err (Refused reason)) ends job text is_told untroubled unbuilt = elim ends.0 [
+  | inl of ↦ absurd (refused_not_unbuilt job.task text reason
+      (told w (λ task. IsRefusedBy task reason) job text of is_told) unbuilt)
+  | inr of ↦
+      let has = told_text w (λ task. IsTableRefusedBy task reason) job text of is_told in
+      absurd (unbuilt_not_accepted job.task text unbuilt
+      (table_refused_accepted job.task text reason has.0 has.2))
+]
 at_unbuilt w (Err Unwritten) ends job text is_told untroubled unbuilt =
-    absurd (unbuilt_not_encoded job.scheme text ends.0.0.0 unbuilt
-    (told w (λ which. IsEncodedAs which ends.0.0.0) job text ends.0.0.1 is_told))
+    absurd (unbuilt_not_accepted job.task text unbuilt
+    (accepted_output w ends.0.0.0 job text ends.0.0.1 is_told))
 at_unbuilt w (Err Memory) ends job text is_told untroubled unbuilt = inr refl
 
 at_refused : (w : Work) (end : End) → EndsBy w end → (job : Job) (text : List ℕ)
     (reason : Fault) → IsTold w job text → (OwnRises w job.problem → ⊥)
-    → IsRefusedBy job.scheme reason text → IsOrMemory (status_of reason) (status_at end)
+    → IsRefusedBy job.task reason text → IsOrMemory (status_of reason) (status_at end)
 at_refused w (Ok done) ends job text reason is_told untroubled refused =
-    absurd (refused_not_encoded job.scheme text reason ends.0 refused
-    (told w (λ which. IsEncodedAs which ends.0) job text ends.1 is_told))
+    absurd (refused_not_accepted job.task text reason refused
+    (accepted_output w ends.0 job text ends.1 is_told))
 at_refused w (Err NotBuilt) ends job text reason is_told untroubled refused = elim ends.0 [
   | inl none ↦ absurd (no_job w job none is_told.job_is)
-  | inr of ↦ absurd (refused_not_unbuilt job.scheme text reason refused
+  | inr of ↦ absurd (refused_not_unbuilt job.task text reason refused
       (told w IsUnbuilt job text of is_told))
 ]
 at_refused w (Err (Unread name)) ends job text reason is_told untroubled refused =
-    absurd (untroubled (troubled w name job text ends.0.0 ends.0.1 ends.0.2 ends.0.4 is_told))
-at_refused w (Err (Refused other)) ends job text reason is_told untroubled refused =
-    inl (ap status_of (refused_once job.scheme text other reason
-    (told w (λ which. IsRefusedBy which other) job text ends.0 is_told) refused))
+    let table = table_unread w name job text ends.0.0 ends.0.1 is_told untroubled in
+    absurd (refused_not_accepted job.task text reason refused table.1)
+at_refused w (Err (Refused other)) ends job text reason is_told untroubled refused = elim ends.0 [
+  | inl of ↦ inl (ap status_of (refused_once job.task text other reason
+      (told w (λ task. IsRefusedBy task other) job text of is_told) refused))
+  | inr of ↦
+      let has = told_text w (λ task. IsTableRefusedBy task other) job text of is_told in
+      absurd (refused_not_accepted job.task text reason refused
+      (table_refused_accepted job.task text other has.0 has.2))
+]
 at_refused w (Err Unwritten) ends job text reason is_told untroubled refused =
-    absurd (refused_not_encoded job.scheme text reason ends.0.0.0 refused
-    (told w (λ which. IsEncodedAs which ends.0.0.0) job text ends.0.0.1 is_told))
+    absurd (refused_not_accepted job.task text reason refused
+    (accepted_output w ends.0.0.0 job text ends.0.0.1 is_told))
 at_refused w (Err Memory) ends job text reason is_told untroubled refused = inr refl
 
+-- ---- told tables
+
+-- no read of a told job stops a run where none fails
+all_read : (w : Work) (name : List ℕ) (job : Job) (text table : List ℕ)
+    → EndsBy w (Err (Unread name)) → AreTold w job text table → NoneFails w job → ⊥
+all_read w name job text table ends are_told none =
+    let is_name = (table_unread w name job text ends.0.0 ends.0.1 are_told.told none.problem).0 in
+    none.table name is_name (table_fails w name job text table are_told is_name ends.0.1)
+
+at_table_refused : (w : Work) (end : End) → EndsBy w end → (job : Job) (text table : List ℕ)
+    (reason : Fault) → AreTold w job text table → NoneFails w job
+    → IsTableRefusedBy job.task reason text table
+    → IsOrMemory (status_of reason) (status_at end)
+at_table_refused w (Ok done) ends job text table reason are_told none refused =
+    absurd (table_refused_not_output job.task text table reason ends.0 refused
+    (told_both w (λ task. IsOutputOf task ends.0) job text table ends.1 are_told))
+at_table_refused w (Err NotBuilt) ends job text table reason are_told none refused =
+    elim ends.0 [
+      | inl jobless ↦ absurd (no_job w job jobless are_told.told.job_is)
+      | inr of ↦ absurd (unbuilt_not_accepted job.task text
+          (told w IsUnbuilt job text of are_told.told)
+          (table_refused_accepted job.task text reason table refused))
+    ]
+at_table_refused w (Err (Unread name)) ends job text table reason are_told none refused =
+    absurd (all_read w name job text table ends are_told none)
+at_table_refused w (Err (Refused other)) ends job text table reason are_told none refused =
+    elim ends.0 [
+      | inl of ↦ absurd (refused_not_accepted job.task text other
+          (told w (λ task. IsRefusedBy task other) job text of are_told.told)
+          (table_refused_accepted job.task text reason table refused))
+      | inr of ↦ inl (ap status_of (table_refused_once job.task text table other reason
+          (told_both w (λ task. IsTableRefusedBy task other) job text table of are_told)
+          refused))
+    ]
+at_table_refused w (Err Unwritten) ends job text table reason are_told none refused =
+    absurd (table_refused_not_output job.task text table reason ends.0.0.0 refused
+    (told_both w (λ task. IsOutputOf task ends.0.0.0) job text table ends.0.0.1 are_told))
+at_table_refused w (Err Memory) ends job text table reason are_told none refused = inr refl
+
 complete : (w : Work) (end : End) → EndsBy w end → Complete w (status_at end)
-complete w (Ok done) ends job text output is_told encoded untroubled written = inl refl
-complete w (Err NotBuilt) ends job text output is_told encoded untroubled written = elim ends.0 [
-  | inl none ↦ absurd (no_job w job none is_told.job_is)
-  | inr of ↦ absurd (unbuilt_not_encoded job.scheme text output
-      (told w IsUnbuilt job text of is_told) encoded)
-]
-complete w (Err (Unread name)) ends job text output is_told encoded untroubled written =
-    absurd (untroubled (troubled w name job text ends.0.0 ends.0.1 ends.0.2 ends.0.4 is_told))
-complete w (Err (Refused reason)) ends job text output is_told encoded untroubled written =
-    absurd (refused_not_encoded job.scheme text reason output
-    (told w (λ which. IsRefusedBy which reason) job text ends.0 is_told) encoded)
-complete w (Err Unwritten) ends job text output is_told encoded untroubled written =
+complete w (Ok done) ends job text table output are_told is_output none written = inl refl
+complete w (Err NotBuilt) ends job text table output are_told is_output none written =
+    elim ends.0 [
+      | inl jobless ↦ absurd (no_job w job jobless are_told.told.job_is)
+      | inr of ↦ absurd (unbuilt_not_accepted job.task text
+          (told w IsUnbuilt job text of are_told.told)
+          (output_accepted job.task text output table is_output))
+    ]
+complete w (Err (Unread name)) ends job text table output are_told is_output none written =
+    absurd (all_read w name job text table ends are_told none)
+complete w (Err (Refused reason)) ends job text table output are_told is_output none written =
+    elim ends.0 [
+      | inl of ↦ absurd (refused_not_accepted job.task text reason
+          (told w (λ task. IsRefusedBy task reason) job text of are_told.told)
+          (output_accepted job.task text output table is_output))
+      | inr of ↦ absurd (table_refused_not_output job.task text table reason output
+          (told_both w (λ task. IsTableRefusedBy task reason) job text table of are_told)
+          is_output)
+    ]
+complete w (Err Unwritten) ends job text table output are_told is_output none written =
     absurd (written ends.0.1)
-complete w (Err Memory) ends job text output is_told encoded untroubled written = inr refl
+complete w (Err Memory) ends job text table output are_told is_output none written = inr refl
 
--- ---- the notes
-
-module _ (w : Work) (notes : Change (Option (List ℕ))) (notes_faults : Change ℕ) where
-  noted_none : (end : End) → EndsBy w end → Noted end notes notes_faults → status_at end ≡ 0
-      → (notes.after ≡ notes.before) × (notes_faults.after ≡ notes_faults.before)
-  noted_none (Ok done) ends noted is = noted
-  noted_none (Err NotBuilt) ends noted is = absurd (omega arith)
-  noted_none (Err (Unread name)) ends noted is = absurd (omega arith)
-  noted_none (Err (Refused reason)) ends noted is =
-      absurd (not_refusal w reason 0 ends.0 is (λ one. omega arith) (λ five. omega arith))
-  noted_none (Err Unwritten) ends noted is = absurd (omega arith)
-  noted_none (Err Memory) ends noted is = absurd (omega arith)
-
-  adds : (text note : List ℕ) → note ≡ line text → Appends notes.before notes.after note
-      → Adds notes text
-  adds text note is appends = subst (λ n. Appends notes.before notes.after n) is appends
-
-  noted_unbuilt : (end : End) → EndsBy w end → Noted end notes notes_faults → status_at end ≡ 9
-      → (Rises notes_faults → ⊥) → Adds notes not_built
-  noted_unbuilt (Ok done) ends noted is calm = absurd (omega arith)
-  noted_unbuilt (Err NotBuilt) ends noted is calm =
-      let note = noted calm in adds not_built note.0 note.1 note.2
-  noted_unbuilt (Err (Unread name)) ends noted is calm = absurd (omega arith)
-  noted_unbuilt (Err (Refused reason)) ends noted is calm =
-      absurd (not_refusal w reason 9 ends.0 is (λ one. omega arith) (λ five. omega arith))
-  noted_unbuilt (Err Unwritten) ends noted is calm = absurd (omega arith)
-  noted_unbuilt (Err Memory) ends noted is calm = absurd (omega arith)
-
-  noted_unwritten : (end : End) → EndsBy w end → Noted end notes notes_faults → status_at end ≡ 7
-      → (Rises notes_faults → ⊥) → Adds notes cannot_write
-  noted_unwritten (Ok done) ends noted is calm = absurd (omega arith)
-  noted_unwritten (Err NotBuilt) ends noted is calm = absurd (omega arith)
-  noted_unwritten (Err (Unread name)) ends noted is calm = absurd (omega arith)
-  noted_unwritten (Err (Refused reason)) ends noted is calm =
-      absurd (not_refusal w reason 7 ends.0 is (λ one. omega arith) (λ five. omega arith))
-  noted_unwritten (Err Unwritten) ends noted is calm =
-      let note = noted calm in adds cannot_write note.0 note.1 note.2
-  noted_unwritten (Err Memory) ends noted is calm = absurd (omega arith)
-
-  noted_memory : (end : End) → EndsBy w end → Noted end notes notes_faults → status_at end ≡ 8
-      → (Rises notes_faults → ⊥) → Adds notes no_memory
-  noted_memory (Ok done) ends noted is calm = absurd (omega arith)
-  noted_memory (Err NotBuilt) ends noted is calm = absurd (omega arith)
-  noted_memory (Err (Unread name)) ends noted is calm = absurd (omega arith)
-  noted_memory (Err (Refused reason)) ends noted is calm =
-      absurd (not_refusal w reason 8 ends.0 is (λ one. omega arith) (λ five. omega arith))
-  noted_memory (Err Unwritten) ends noted is calm = absurd (omega arith)
-  noted_memory (Err Memory) ends noted is calm =
-      let note = noted calm in adds no_memory note.0 note.1 note.2
-
-  noted_unread : (end : End) → EndsBy w end → Noted end notes notes_faults → status_at end ≡ 6
-      → (Rises notes_faults → ⊥)
-      → (job : Job) × (w.job ≡ Some job) × (IsHeld w.held job.problem → OwnRises w job.problem)
-      × Adds notes (cannot_read ++ job.problem)
-  noted_unread (Ok done) ends noted is calm = absurd (omega arith)
-  noted_unread (Err NotBuilt) ends noted is calm = absurd (omega arith)
-  noted_unread (Err (Unread name)) ends noted is calm =
-      let note = noted calm in
-      let name_is = ends.0.2 in (
-        ends.0.0,
-        ends.0.1,
-        subst (λ n. IsHeld w.held n → OwnRises w n) (sym name_is) ends.0.4,
-        subst (λ n. Adds notes (cannot_read ++ n)) (sym name_is)
-            (adds (cannot_read ++ name) note.0 note.1 note.2),
-      )
-  noted_unread (Err (Refused reason)) ends noted is calm =
-      absurd (not_refusal w reason 6 ends.0 is (λ one. omega arith) (λ five. omega arith))
-  noted_unread (Err Unwritten) ends noted is calm = absurd (omega arith)
-  noted_unread (Err Memory) ends noted is calm = absurd (omega arith)
-
-  noted_refused : (end : End) → EndsBy w end → Noted end notes notes_faults
-      → IsRefusal (status_at end) → (Rises notes_faults → ⊥)
-      → (reason : Fault) × RefusesText w reason × (status_of reason ≡ status_at end)
-      × ((rest : List ℕ)
-      × Appends notes.before notes.after (program_word ++ (number_of reason ++ rest)))
-  noted_refused end ends noted is calm =
-      let refused = only_refused w end ends is in
-      let note = subst (λ e. Noted e notes notes_faults) refused.3 noted calm in
-      let rest = note.1 in (
-        refused.0,
-        refused.1,
-        refused.2,
-        (rest.0, subst (λ n. Appends notes.before notes.after n) rest.1 note.2),
-      )
-
--- ---- all promises but the headline
+-- ---- all promises of this kind
 
 module _
     (w : Work) (notes : Change (Option (List ℕ))) (notes_faults : Change ℕ) (status : ℕ)
@@ -437,20 +293,20 @@ module _
     pub refused_exactly : RefusedExactly w status
     refused_exactly = at_status (RefusedExactly w) (record {
       at_text = at_refused w ended.end ended.ends;
-      only = λ job text is_told is.
+      at_table = at_table_refused w ended.end ended.ends;
+      only = λ is.
           let refused = only_refused w ended.end ended.ends is in
-          let reason = refused.0 in (
-            reason,
-            told w (λ which. IsRefusedBy which reason) job text refused.1 is_told,
-            refused.2,
-          );
+          (refused.0, refused.1, refused.2);
     })
 
     pub unread_only : UnreadOnly w status
     unread_only = at_status (UnreadOnly w) (unread w ended.end ended.ends)
 
     pub unheld_is_unread : UnheldIsUnread w status
-    unheld_is_unread = at_status (UnheldIsUnread w) (unheld w ended.end ended.ends)
+    unheld_is_unread = at_status (UnheldIsUnread w) (record {
+      problem = unheld w ended.end ended.ends;
+      table = unheld_table w ended.end ended.ends;
+    })
 
     pub unwritten_only : UnwrittenOnly w status
     unwritten_only = at_status (UnwrittenOnly w) (unwritten w ended.end ended.ends)
@@ -466,11 +322,5 @@ module _
     })
 
     pub notes_hold : NotesHold w notes notes_faults status
-    notes_hold = at_status (NotesHold w notes notes_faults) (record {
-      none = noted_none w notes notes_faults ended.end ended.ends ended.noted;
-      unbuilt = noted_unbuilt w notes notes_faults ended.end ended.ends ended.noted;
-      unread = noted_unread w notes notes_faults ended.end ended.ends ended.noted;
-      unwritten = noted_unwritten w notes notes_faults ended.end ended.ends ended.noted;
-      memory = noted_memory w notes notes_faults ended.end ended.ends ended.noted;
-      refused = noted_refused w notes notes_faults ended.end ended.ends ended.noted;
-    })
+    notes_hold = at_status (NotesHold w notes notes_faults)
+        (notes_of w notes notes_faults ended.end ended.ends ended.noted)

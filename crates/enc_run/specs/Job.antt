@@ -1,28 +1,73 @@
 -- What the words ask for.
-use Rattle.std.specs.Prelude.{ℕ, if◌then◌else◌, List, [], ◌∷◌, Option, Some, None, codes}
+use Rattle.std.specs.Prelude.{ℕ, Bool, true, false, ◌&&◌, if◌then◌else◌, List, [], ◌∷◌, Option, Some, None, codes}
+use Rattle.std.specs.Option.{option_map}
 use Rattle.std.specs.Str.{bytes_eq}
 use Rattle.enc_marks.specs.declared.scheme.Scheme.{Scheme}
-use Rattle.enc_marks.specs.declared.scheme.Scheme.TheVariants.{Guards, Erase}
+use Rattle.enc_marks.specs.declared.scheme.Scheme.TheVariants as scheme
 use Rattle.enc_pipeline.specs.Output.{scheme_name}
 use Rattle.enc_run.specs.declared.job.Job.{Job}
+use Rattle.enc_run.specs.declared.job.Task.{Task}
+use Rattle.enc_run.specs.declared.job.Task.TheVariants.{Encode, Check, Lower, Lift}
+
+-- the name of a task's table, where it has one
+abbrev pub table_name : Task → Option (List ℕ)
+table_name (Encode which) = None
+table_name (Check table) = Some table
+table_name (Lower table which) = Some table
+table_name (Lift table which) = Some table
 
 -- the scheme of this name, where it is built
 abbrev pub scheme_of : List ℕ → Option Scheme
 scheme_of name =
-    if bytes_eq name (scheme_name Guards) then Some Guards
-    else (if bytes_eq name (scheme_name Erase) then Some Erase else None)
+    if bytes_eq name (scheme_name scheme.Guards) then Some scheme.Guards
+    else (if bytes_eq name (scheme_name scheme.Erase) then Some scheme.Erase else None)
 
--- the job of this action and problem by a scheme that is built: no action but `encode` is
-abbrev pub encoding_of : List ℕ → List ℕ → Option Scheme → Option Job
-encoding_of action problem None = None
-encoding_of action problem (Some scheme) =
-    if bytes_eq action (codes "encode") then Some (record { problem = problem; scheme = scheme })
-    else None
+-- ---- tasks, by the name of the action
 
--- The words give this job: `encode` and the problem's name, for the scheme `guards`, or these with
--- `--scheme` and the name of a scheme. No others do yet.
+-- an encoding by a scheme that is built
+abbrev pub encoding_of : List ℕ → Option Scheme → Option Task
+encoding_of action None = None
+encoding_of action (Some which) =
+    if bytes_eq action (codes "encode") then Some (Encode which) else None
+
+-- a model is carried, by a scheme for which that is built: `guards` alone
+abbrev pub carrying_of : List ℕ → List ℕ → Option Scheme → Option Task
+carrying_of action table (Some scheme.Guards) =
+    if bytes_eq action (codes "lower") then Some (Lower table scheme.Guards)
+    else (if bytes_eq action (codes "lift") then Some (Lift table scheme.Guards) else None)
+carrying_of action table _ = None
+
+-- a task with a table, where no scheme is named
+abbrev pub table_task_of : List ℕ → List ℕ → Option Task
+table_task_of action table =
+    if bytes_eq action (codes "check") then Some (Check table)
+    else carrying_of action table (Some scheme.Guards)
+
+-- ---- jobs
+
+-- the task on this problem
+abbrev pub with_problem : List ℕ → Option Task → Option Job
+with_problem problem = option_map (λ task. record { problem = problem; task = task })
+
+-- the word is the name of the standard input
+abbrev pub is_standard_input : List ℕ → Bool
+is_standard_input name = bytes_eq name (codes "-")
+
+-- the task on this problem, unless it and the table are both to come from the standard input
+abbrev pub with_both : List ℕ → List ℕ → Option Task → Option Job
+with_both problem table task =
+    if is_standard_input problem && is_standard_input table then None else with_problem problem task
+
+-- The words give this job: `encode` and the problem's name; `check`, `lower` or `lift`, the
+-- problem's name and the table's; or these, `check` apart, with `--scheme` and the name of a
+-- scheme, which is `guards` where none is named. No other words give one yet.
 abbrev pub job_of : List (List ℕ) → Option Job
-job_of (action ∷ problem ∷ []) = encoding_of action problem (Some Guards)
+job_of (action ∷ problem ∷ []) = with_problem problem (encoding_of action (Some scheme.Guards))
+job_of (action ∷ problem ∷ table ∷ []) = with_both problem table (table_task_of action table)
 job_of (action ∷ problem ∷ option ∷ name ∷ []) =
-    if bytes_eq option (codes "--scheme") then encoding_of action problem (scheme_of name) else None
+    if bytes_eq option (codes "--scheme") then with_problem problem (encoding_of action (scheme_of name))
+    else None
+job_of (action ∷ problem ∷ table ∷ option ∷ name ∷ []) =
+    if bytes_eq option (codes "--scheme")
+    then with_both problem table (carrying_of action table (scheme_of name)) else None
 job_of _ = None

@@ -1,6 +1,8 @@
--- How the parts of a run end: an encoding of a text, and of the problem that it has.
-use Rattle.std.specs.Prelude.{◌≡◌, ◌<◌, ◌≤◌, ℕ, true, false, List, Option, Result, Ok, Err}
+-- How the parts of a run end: the encoding of a problem, and a task on a text.
+use Rattle.std.specs.Prelude.{◌≡◌, ◌<◌, ◌≤◌, ◌⊎◌, ℕ, true, false, List, [], Option, Some, Result, Ok, Err}
 use Rattle.std.specs.Io.KnownBytes.{Appends, Keeps}
+use Rattle.enc_base.specs.Counts.{one_more}
+use Rattle.enc_base.specs.Library.{Files}
 use Rattle.enc_base.specs.Sink.{AppendsPrefix}
 use Rattle.tf_core.specs.declared.problem.Problem.{Problem}
 use Rattle.tf_nnf.specs.Nodes.{in_64_bits}
@@ -14,10 +16,17 @@ use Rattle.enc_marks.specs.declared.scheme.Scheme.{Scheme}
 use Rattle.enc_pipeline.specs.declared.fault.Fault.TheVariants.{TooLarge}
 use Rattle.enc_pipeline.specs.Causes.{nodes_of}
 use Rattle.enc_pipeline.specs.Output.{output_of}
+use Rattle.enc_pipeline.specs.Reading.{HasProblem}
+use Rattle.enc_pipeline.specs.Way.{Preparation}
 use Rattle.enc_run.specs.Plain.{is_plain}
 use Rattle.enc_run.specs.Erased.{erased}
-use Rattle.enc_run.specs.Refusals.{IsRefusedBy, IsUnbuilt, IsEncodedAs, is_taken, untyped_problem}
-use Rattle.enc_run.specs.Work.{Change, Rises}
+use Rattle.enc_run.specs.Ending.{Fails}
+use Rattle.enc_run.specs.Job.{table_name}
+use Rattle.enc_run.specs.Leads.{IsRefusedBy, IsTableRefusedBy, IsUnbuilt, IsAcceptable, IsOutputOf}
+use Rattle.enc_run.specs.Leads.{encodes, carries, untyped_problem, preparation}
+use Rattle.enc_run.specs.Work.{Change, Work, Rises, HasTable}
+use Rattle.enc_run.specs.declared.job.Task.{Task}
+use Rattle.enc_run.specs.declared.job.Task.TheVariants.{Encode}
 use Rattle.enc_run.specs.declared.stop.Stop.{Stop}
 use Rattle.enc_run.specs.declared.stop.Stop.TheVariants.{NotBuilt, Unread, Refused, Unwritten, Memory}
 
@@ -33,16 +42,16 @@ pub record IsTranslationOf (source : Problem) (problem : FofProblem) : Type 0 wh
 
 -- how a problem stops a run before anything is written
 abbrev pub ProblemStops : Scheme → Problem → Stop → Type 0
-ProblemStops which problem NotBuilt = is_taken which problem ≡ false
+ProblemStops which problem NotBuilt = encodes which problem ≡ false
 ProblemStops which problem (Refused (TooLarge nodes)) =
-    (is_taken which problem ≡ true) × (most_nodes < nodes_of problem)
+    (encodes which problem ≡ true) × (most_nodes < nodes_of problem)
     × (nodes ≡ in_64_bits (nodes_of problem))
 ProblemStops which problem Memory = Unit {0}
 ProblemStops which problem _ = ⊥
 
 -- the problem is taken and within the limits, and so much is written of its encoding
 pub record IsWritten (which : Scheme) (problem : Problem) (Part : List ℕ → Type 0) : Type 0 where
-  pub taken : is_taken which problem ≡ true
+  pub taken : encodes which problem ≡ true
   pub within : nodes_of problem ≤ most_nodes
   pub written : Part (output_of which (untyped_problem which problem))
 
@@ -59,13 +68,67 @@ module _ (which : Scheme) (problem : Problem) (out : Change (Option (List ℕ)))
 
 module _ (which : Scheme) (text : List ℕ) (out : Change (Option (List ℕ))) (faults : Change ℕ) where
   -- how the encoding of a text ends
+  abbrev pub EncodingEnds : Result (Unit {0}) Stop → Type 0
+  EncodingEnds (Ok done) =
+      (output : List ℕ) × IsOutputOf (Encode which) output text []
+      × Appends out.before out.after output
+  EncodingEnds (Err Unwritten) =
+      (output : List ℕ) × IsOutputOf (Encode which) output text []
+      × AppendsPrefix out.before out.after output × Rises faults
+  EncodingEnds (Err NotBuilt) = IsUnbuilt (Encode which) text × Keeps out.before out.after
+  EncodingEnds (Err (Refused reason)) =
+      IsRefusedBy (Encode which) reason text × Keeps out.before out.after
+  EncodingEnds (Err Memory) = Keeps out.before out.after
+  EncodingEnds (Err (Unread name)) = ⊥
+
+-- why a task is stopped by its problem's text
+abbrev pub TextStops : Task → List ℕ → Stop → Type 0
+TextStops task text NotBuilt = IsUnbuilt task text
+TextStops task text (Refused reason) = IsRefusedBy task reason text
+TextStops task text Memory = Unit {0}
+TextStops task text _ = ⊥
+
+-- the text has the problem, whose models the scheme carries and which is within the limits, and it is
+-- prepared for the scheme
+pub record HasPrepared (which : Scheme) (text : List ℕ) (prepared : Preparation) : Type 0 where
+  pub problem : Problem
+  pub has : HasProblem text problem
+  pub taken : carries which ≡ true
+  pub within : nodes_of problem ≤ most_nodes
+  pub is : prepared ≡ preparation which problem
+
+-- How a task on a problem's text ends, as seen from the read of that text on: `w` is what is seen of
+-- the rest of the run.
+module _ (task : Task) (text : List ℕ) (w : Work) where
+  -- the text of the task's table leads to this
+  abbrev pub WithTable : (List ℕ → Type 0) → Type 0
+  WithTable Leads = (table : List ℕ) × HasTable w task table × Leads table
+
   abbrev pub TextEnds : Result (Unit {0}) Stop → Type 0
   TextEnds (Ok done) =
-      (output : List ℕ) × IsEncodedAs which output text × Appends out.before out.after output
+      (output : List ℕ) × WithTable (IsOutputOf task output text)
+      × Appends w.out.before w.out.after output
   TextEnds (Err Unwritten) =
-      (output : List ℕ) × IsEncodedAs which output text
-      × AppendsPrefix out.before out.after output × Rises faults
-  TextEnds (Err NotBuilt) = IsUnbuilt which text × Keeps out.before out.after
-  TextEnds (Err (Refused reason)) = IsRefusedBy which reason text × Keeps out.before out.after
-  TextEnds (Err Memory) = Keeps out.before out.after
-  TextEnds (Err (Unread name)) = ⊥
+      (output : List ℕ) × WithTable (IsOutputOf task output text)
+      × AppendsPrefix w.out.before w.out.after output × Rises w.out_faults
+  TextEnds (Err NotBuilt) = IsUnbuilt task text × Keeps w.out.before w.out.after
+  TextEnds (Err (Refused reason)) =
+      (IsRefusedBy task reason text ⊎ WithTable (IsTableRefusedBy task reason text))
+      × Keeps w.out.before w.out.after
+  TextEnds (Err (Unread name)) =
+      (table_name task ≡ Some name) × IsAcceptable task text × Fails w name
+      × Keeps w.out.before w.out.after
+  TextEnds (Err Memory) = Keeps w.out.before w.out.after
+
+  -- the table is read at most once, and only where the problem's text is accepted
+  abbrev pub ReadsTable : Type 0
+  ReadsTable =
+      (w.reads.after ≡ w.reads.before)
+      ⊎ ((name : List ℕ) × (table_name task ≡ Some name) × IsAcceptable task text
+      × (w.reads.after ≡ one_more w.reads.before))
+
+-- what no read changes: the files, and that no count falls
+pub record GoesOn (w : Work) (held_after : Option Files) : Type 0 where
+  pub same_files : held_after ≡ w.held
+  pub later : w.faults.before ≤ w.faults.after
+  pub own_later : (name : List ℕ) → w.own.before name ≤ w.own.after name

@@ -21,3 +21,6 @@ stop_of (fault.Reading reason) = Refused (fault.Reading reason)
 stop_of (fault.Typing reason) = Refused (fault.Typing reason)
 stop_of (fault.TooLarge nodes) = Refused (fault.TooLarge nodes)
 stop_of (fault.Scheme reason) = Refused (fault.Scheme reason)
+stop_of fault.Incomplete = Refused fault.Incomplete
+stop_of (fault.Table reason) = Refused (fault.Table reason)
+stop_of (fault.NotModel formula) = Refused (fault.NotModel formula)

@@ -1,8 +1,10 @@
 -- A run as its caller sees it.
-use Rattle.std.specs.Prelude.{◌≡◌, ℕ, List, [], Option, Some}
+use Rattle.std.specs.Prelude.{◌≡◌, ℕ, List, [], Option, Some, None}
 use Rattle.enc_base.specs.Counts.{Rose}
 use Rattle.enc_base.specs.Library.{Files, Holds, Gives}
+use Rattle.enc_run.specs.Job.{table_name}
 use Rattle.enc_run.specs.declared.job.Job.{Job}
+use Rattle.enc_run.specs.declared.job.Task.{Task}
 
 -- a value before a call and after it
 pub record Change (A : Type 0) : Type 0 where
@@ -42,12 +44,37 @@ Rises count = Rose count.before count.after
 abbrev pub OwnRises : Work → List ℕ → Type 0
 OwnRises w name = Rose (w.own.before name) (w.own.after name)
 
+-- ---- texts
+
+-- The text stands under the name, as far as the library tells it: a library that tells its files
+-- holds it under that name.
+abbrev pub HasText : Work → List ℕ → List ℕ → Type 0
+HasText w name text = Gives w.held name [] text
+
+-- the library tells that the text stands under the name
+abbrev pub Tells : Work → List ℕ → List ℕ → Type 0
+Tells w name text = Holds w.held name text
+
+-- this holds of the text and the name of a table, where a task has one; else the text is empty
+abbrev pub OfName : Option (List ℕ) → (List ℕ → List ℕ → Type 0) → List ℕ → Type 0
+OfName None Holding text = text ≡ []
+OfName (Some name) Holding text = Holding name text
+
+-- the text is that of the task's table, as far as the library tells it
+abbrev pub HasTable : Work → Task → List ℕ → Type 0
+HasTable w task table = OfName (table_name task) (HasText w) table
+
 -- the words give the job, and the library tells that this text stands under its problem's name
 pub record IsTold (w : Work) (job : Job) (text : List ℕ) : Type 0 where
   pub job_is : w.job ≡ Some job
-  pub holds : Holds w.held job.problem text
+  pub holds : Tells w job.problem text
 
--- The text is that of the job's problem, as far as the library tells it: a library that tells its
--- files holds it under that name.
-abbrev pub HasText : Work → Job → List ℕ → Type 0
-HasText w job text = Gives w.held job.problem [] text
+-- the same of the problem's text and the table's
+pub record AreTold (w : Work) (job : Job) (text table : List ℕ) : Type 0 where
+  pub told : IsTold w job text
+  pub holds_table : OfName (table_name job.task) (Tells w) table
+
+-- no read of a file of the job failed by the library's count
+pub record NoneFails (w : Work) (job : Job) : Type 0 where
+  pub problem : OwnRises w job.problem → ⊥
+  pub table : (name : List ℕ) → table_name job.task ≡ Some name → OwnRises w name → ⊥

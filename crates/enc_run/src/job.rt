@@ -1,21 +1,34 @@
 ghost use Rattle.std.specs.Prelude.{◌≡◌, IfOk, map, string_bytes};
-ghost use Rattle.enc_run.specs.Job.{job_of, encoding_of, scheme_of};
+ghost use Rattle.enc_run.specs.Job as spec;
 
 use crate::Text;
 use enc_base::NoMemory;
 use enc_marks::Scheme;
 use std::alloc::Global;
 
-/// What the words ask for: the problem of this name is to be encoded by the scheme.
+/// What is to be done with a problem. A table is named as a file is.
+#[derive(Debug, Drop)]
+pub enum Task {
+    /// Write its encoding by the scheme.
+    Encode { scheme: Scheme },
+    /// Tell whether the structure of a typed table is a model of it.
+    Check { table: Text },
+    /// Carry the model of a typed table to the encoding by the scheme.
+    Lower { table: Text, scheme: Scheme },
+    /// Carry the model of an untyped table back from the encoding by the scheme.
+    Lift { table: Text, scheme: Scheme },
+}
+
+/// What the words ask for: a task on the problem in the file of this name.
 #[derive(Debug, Drop)]
 pub struct Job {
     pub problem: Text,
-    pub scheme: Scheme,
+    pub task: Task,
 }
 
 // the scheme of this name, where it is built
 fn scheme_of(name: &str) -> Option<Scheme>
-    ensures { result ≡ scheme_of name.now }
+    ensures { result ≡ spec.scheme_of name.now }
 {
     if name == "guards" {
         Some(Scheme::Guards)
@@ -26,41 +39,101 @@ fn scheme_of(name: &str) -> Option<Scheme>
     }
 }
 
-// the job of this action and problem by a scheme that is built
-fn encoding_of(
+// the encoding by a scheme that is built
+fn encoding_of(action: &str, scheme: Option<Scheme>) -> Option<Task>
+    ensures { result ≡ spec.encoding_of action.now scheme }
+{
+    let scheme = scheme?;
+    if action == "encode" {
+        Some(Task::Encode { scheme })
+    } else {
+        None
+    }
+}
+
+// the carrying of a table's model by a scheme for which that is built
+fn carrying_of(
     alloc: Global,
     action: &str,
-    problem: &str,
+    table: &str,
     scheme: Option<Scheme>,
-) -> Result<Option<Job>, NoMemory>
-    ensures { IfOk result (λ job. job ≡ encoding_of action.now problem.now scheme) }
+) -> Result<Option<Task>, NoMemory>
+    ensures { IfOk result (λ task. task ≡ spec.carrying_of action.now table.now scheme) }
 {
-    let Some(scheme) = scheme else {
+    let Some(Scheme::Guards) = scheme else {
         return Ok(None);
     };
-    if action != "encode" {
+    let scheme = Scheme::Guards;
+    if action == "lower" {
+        let table = Text::from_str(alloc, table)?;
+        Ok(Some(Task::Lower { table, scheme }))
+    } else if action == "lift" {
+        let table = Text::from_str(alloc, table)?;
+        Ok(Some(Task::Lift { table, scheme }))
+    } else {
+        Ok(None)
+    }
+}
+
+// the task with a table where no scheme is named
+fn table_task_of(alloc: Global, action: &str, table: &str) -> Result<Option<Task>, NoMemory>
+    ensures { IfOk result (λ task. task ≡ spec.table_task_of action.now table.now) }
+{
+    if action == "check" {
+        let table = Text::from_str(alloc, table)?;
+        Ok(Some(Task::Check { table }))
+    } else {
+        carrying_of(alloc, action, table, Some(Scheme::Guards))
+    }
+}
+
+// the task on this problem
+fn with_problem(alloc: Global, problem: &str, task: Option<Task>) -> Result<Option<Job>, NoMemory>
+    ensures { IfOk result (λ job. job ≡ spec.with_problem problem.now task) }
+{
+    let Some(task) = task else {
+        return Ok(None);
+    };
+    let problem = Text::from_str(alloc, problem)?;
+    Ok(Some(Job { problem, task }))
+}
+
+// the task on this problem and table, which can't both be the standard input
+fn with_both(
+    alloc: Global,
+    problem: &str,
+    table: &str,
+    task: Option<Task>,
+) -> Result<Option<Job>, NoMemory>
+    ensures { IfOk result (λ job. job ≡ spec.with_both problem.now table.now task) }
+{
+    if problem == "-" && table == "-" {
         return Ok(None);
     }
-    let problem = Text::from_str(alloc, problem)?;
-    Ok(Some(Job { problem, scheme }))
+    with_problem(alloc, problem, task)
 }
 
 /// The job that the words give, where they give one.
 pub fn read_words(alloc: Global, words: &[String]) -> Result<Option<Job>, NoMemory>
-    ensures { IfOk result (λ job. job ≡ job_of (map string_bytes words.now)) }
+    ensures { IfOk result (λ job. job ≡ spec.job_of (map string_bytes words.now)) }
 {
     match words {
         [action, problem] => {
-            let scheme = Some(Scheme::Guards);
-            encoding_of(alloc, action.as_str(), problem.as_str(), scheme)
+            let task = encoding_of(action.as_str(), Some(Scheme::Guards));
+            with_problem(alloc, problem.as_str(), task)
         }
-        [action, problem, option, name] => {
-            if option.as_str() == "--scheme" {
-                let scheme = scheme_of(name.as_str());
-                encoding_of(alloc, action.as_str(), problem.as_str(), scheme)
-            } else {
-                Ok(None)
-            }
+        [action, problem, table] => {
+            let task = table_task_of(alloc, action.as_str(), table.as_str())?;
+            with_both(alloc, problem.as_str(), table.as_str(), task)
+        }
+        [action, problem, option, name] if option.as_str() == "--scheme" => {
+            let task = encoding_of(action.as_str(), scheme_of(name.as_str()));
+            with_problem(alloc, problem.as_str(), task)
+        }
+        [action, problem, table, option, name] if option.as_str() == "--scheme" => {
+            let scheme = scheme_of(name.as_str());
+            let task = carrying_of(alloc, action.as_str(), table.as_str(), scheme)?;
+            with_both(alloc, problem.as_str(), table.as_str(), task)
         }
         _ => Ok(None),
     }

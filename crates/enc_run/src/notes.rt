@@ -4,12 +4,13 @@ ghost use Rattle.std.specs.Prelude.{◌≡◌, ◌≤◌, ◌++◌, ℕ, List, O
 ghost use Rattle.std.specs.Io.KnownBytes.{Appends};
 ghost use Rattle.enc_base.specs.Counts.{Rose};
 ghost use Rattle.enc_run.specs.Note.{Notes, line, not_built, cannot_read, cannot_write, no_memory, program_word};
-ghost use Rattle.enc_run.specs.Refusals.{number_of, reading_number, scheme_number, typing_number};
+ghost use Rattle.enc_run.specs.Refusals.{number_of, reading_number, scheme_number, table_number, typing_number};
 
 use crate::Stop;
 use enc_base::{Failed, Sink};
 use enc_marks::Refusal;
 use enc_pipeline::Fault;
+use model_tables::TableError;
 use std::alloc::Global;
 use tf_check::TypeError;
 use tptp_syntax::ReadError;
@@ -110,6 +111,21 @@ fn scheme_number(reason: &Refusal) -> &'static [u8]
     }
 }
 
+fn table_number(reason: &TableError) -> &'static [u8]
+    ensures { result.now ≡ table_number reason.now }
+{
+    match reason {
+        TableError::TableSyntax { .. } => b"41 ",
+        TableError::UnknownSymbol { .. } => b"42 ",
+        TableError::Missing { .. } => b"43 ",
+        TableError::Repeated { .. } => b"44 ",
+        TableError::WrongLength { .. } => b"45 ",
+        TableError::OutOfRange { .. } => b"46 ",
+        TableError::TooLarge { .. } => b"33 ",
+        TableError::Memory => b"",
+    }
+}
+
 #[tactic(auto, unfolding(crate::specs::Refusals::number_of))]
 fn number_of(reason: &Fault) -> &'static [u8]
     ensures { result.now ≡ number_of reason.now }
@@ -119,6 +135,9 @@ fn number_of(reason: &Fault) -> &'static [u8]
         Fault::Typing(reason) => typing_number(reason),
         Fault::TooLarge { .. } => b"22 ",
         Fault::Scheme(reason) => scheme_number(reason),
+        Fault::Incomplete => b"34 ",
+        Fault::Table(reason) => table_number(reason),
+        Fault::NotModel { .. } => b"47 ",
         Fault::Write => b"",
         Fault::Memory => b"",
     }

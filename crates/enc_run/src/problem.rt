@@ -6,7 +6,8 @@ ghost use Rattle.tf_core.specs.Sound.{IsSound, IsSoundNormal};
 ghost use Rattle.tf_nnf.specs.NormalForm.{normal_of};
 ghost use Rattle.tf_nnf.specs.Refusal.{most_nodes};
 ghost use Rattle.enc_pipeline.specs.Causes.{nodes_of};
-ghost use Rattle.enc_run.specs.Parts.{IsTranslationOf, ProblemEnds, ProblemStops, TextEnds};
+ghost use Rattle.enc_pipeline.specs.Distinct.{HasDistinctNames};
+ghost use Rattle.enc_run.specs.Parts.{IsTranslationOf, ProblemEnds, ProblemStops, EncodingEnds};
 ghost use Rattle.enc_run.specs.Plain.{is_plain};
 
 use crate::Stop;
@@ -24,6 +25,7 @@ use tf_nnf::{NormalError, normalise};
 fn encode_by_guards<O: Sink>(alloc: Global, problem: Problem, out: &mut O) -> Result<(), Stop>
     requires sound { IsSound problem }
     requires named { HasWritableNames problem }
+    requires distinct { HasDistinctNames problem }
     ensures ends { ProblemEnds Scheme.Guards problem (record { before = O.bytes out.old; after = O.bytes out.new })
         (record { before = O.faults out.old; after = O.faults out.new }) result }
 {
@@ -97,7 +99,7 @@ pub fn encode_text<O: Sink>(
     text: &[u8],
     out: &mut O,
 ) -> Result<(), Stop>
-    ensures ends { TextEnds which text.now (record { before = O.bytes out.old; after = O.bytes out.new })
+    ensures ends { EncodingEnds which text.now (record { before = O.bytes out.old; after = O.bytes out.new })
         (record { before = O.faults out.old; after = O.faults out.new }) result }
 {
     let problem = read_problem(alloc, text)?;

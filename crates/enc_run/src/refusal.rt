@@ -5,6 +5,7 @@ ghost use Rattle.enc_run.specs.Refusals as spec;
 
 use enc_marks::Refusal;
 use enc_pipeline::Fault;
+use model_tables::TableError;
 use tf_check::TypeError;
 use tptp_syntax::ReadError;
 
@@ -38,8 +39,18 @@ fn scheme_status(reason: &Refusal) -> u8
     }
 }
 
-/// The exit status: 5 where a limit is passed, 3 where the scheme doesn't apply, and 1 where there is
-/// no problem.
+fn table_status(reason: &TableError) -> u8
+    ensures { result ≡ spec.table_status reason.now }
+{
+    match reason {
+        TableError::TooLarge { .. } => 5,
+        TableError::Memory => 8,
+        _ => 4,
+    }
+}
+
+/// The exit status: 5 where a limit is passed, 4 where the table is none of a model, 3 where the
+/// scheme doesn't apply, and 1 where there is no problem.
 pub fn status_of(reason: &Fault) -> u8
     ensures { result ≡ spec.status_of reason.now }
 {
@@ -48,6 +59,9 @@ pub fn status_of(reason: &Fault) -> u8
         Fault::Typing(reason) => typing_status(reason),
         Fault::TooLarge { .. } => 5,
         Fault::Scheme(reason) => scheme_status(reason),
+        Fault::Incomplete => 3,
+        Fault::Table(reason) => table_status(reason),
+        Fault::NotModel { .. } => 4,
         Fault::Write => 7,
         Fault::Memory => 8,
     }

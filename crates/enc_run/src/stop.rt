@@ -12,7 +12,7 @@ pub enum Stop {
     NotBuilt,
     /// The named file could not be read.
     Unread(Text),
-    /// The problem is refused. The reason is neither want of memory nor a failed write.
+    /// The problem or the table is refused. The reason is neither want of memory nor a failed write.
     Refused(Fault),
     /// The output could not be written.
     Unwritten,

@@ -1,47 +1,54 @@
 //! The top call.
 
-ghost use Rattle.std.specs.Prelude.{◌≡◌, [], map, string_bytes, IfOk, IfErr, Some};
-ghost use Rattle.enc_base.specs.Counts.{Rose, one_more};
-ghost use Rattle.enc_base.specs.Library.{IsHeld, Gives};
+ghost use Rattle.std.specs.Prelude.{map, string_bytes, Some, None};
 ghost use Rattle.enc_run.specs.Job.{job_of};
 ghost use Rattle.enc_run.specs.Work.{work_of};
-ghost use Rattle.enc_run.specs.Ending.{EndsBy, Ended, ReadsOnce, IsUnread};
+ghost use Rattle.enc_run.specs.Ending.{EndsBy, Ended, ReadsAsNeeded};
+ghost use Rattle.enc_run.specs.Parts.{TextEnds, ReadsTable, GoesOn};
 ghost use Rattle.enc_run.specs.Promises.{Headline, Complete, NotBuiltExactly, RefusedExactly, UnreadOnly, UnheldIsUnread, UnwrittenOnly, IsStatus, OutHolds, NotesHold};
+ghost use Rattle.enc_run.specs.TablePromises.{Checks, Lowers, Lifts};
 
-use crate::job::{Job, read_words};
+use crate::job::{Job, Task, read_words};
 use crate::notes::write_note;
 use crate::problem::encode_text;
-use crate::{Stop, Text};
-use enc_base::{Library, NoMemory, ReadFault, Sink};
+use crate::reading::read_text;
+use crate::stop::Stop;
+use crate::tables::{check_text, lift_text, lower_text};
+use enc_base::{Library, NoMemory, Sink};
 use std::alloc::Global;
 
-// The bytes of the named file.
-fn read_text<L: Library>(alloc: Global, name: Text, files: &mut L) -> Result<Vec<u8>, Stop>
-    ensures text { IfOk result (λ text. Gives (L.held files.old) name [] text.items) }
-    ensures cause { IfErr result (IsUnread name (Rose (L.faults files.old) (L.faults files.new))
-        (IsHeld (L.held files.old) name → Rose (L.own_faults files.old name) (L.own_faults files.new name))) }
-    ensures counted { L.reads files.new ≡ one_more (L.reads files.old) }
+// Does the task on the problem's text.
+fn perform<L: Library, O: Sink>(
+    alloc: Global,
+    task: Task,
+    text: &[u8],
+    files: &mut L,
+    out: &mut O,
+) -> Result<(), Stop>
+    ensures ends { TextEnds task text.now (work_of L.held L.faults L.reads L.own_faults O.bytes O.faults None files.old files.new out.old out.new) result }
+    ensures reads { ReadsTable task text.now (work_of L.held L.faults L.reads L.own_faults O.bytes O.faults None files.old files.new out.old out.new) }
+    ensures goes { GoesOn (work_of L.held L.faults L.reads L.own_faults O.bytes O.faults None files.old files.new out.old out.new) (L.held files.new) }
 {
-    let mut text = Vec::new(alloc);
-    match files.read(name.as_str(), &mut text) {
-        Ok(()) => Ok(text),
-        Err(ReadFault::Failed) => Err(Stop::Unread(name)),
-        Err(ReadFault::Memory) => Err(Stop::Memory),
+    match task {
+        Task::Encode { scheme } => encode_text(alloc, scheme, text, out),
+        Task::Check { table } => check_text(alloc, text, table, files, out),
+        Task::Lower { table, scheme } => lower_text(alloc, scheme, text, table, files, out),
+        Task::Lift { table, scheme } => lift_text(alloc, scheme, text, table, files, out),
     }
 }
 
-// Encodes the job's problem.
-fn encode<L: Library, O: Sink>(
+// Does the job.
+fn finish<L: Library, O: Sink>(
     alloc: Global,
     job: Job,
     files: &mut L,
     out: &mut O,
 ) -> Result<(), Stop>
     ensures ends { EndsBy (work_of L.held L.faults L.reads L.own_faults O.bytes O.faults (Some job) files.old files.new out.old out.new) result }
-    ensures counted { L.reads files.new ≡ one_more (L.reads files.old) }
+    ensures reads { ReadsAsNeeded (work_of L.held L.faults L.reads L.own_faults O.bytes O.faults (Some job) files.old files.new out.old out.new) }
 {
     let text = read_text(alloc, job.problem, files)?;
-    encode_text(alloc, job.scheme, &text, out)
+    perform(alloc, job.task, &text, files, out)
 }
 
 fn work<L: Library, O: Sink>(
@@ -51,10 +58,10 @@ fn work<L: Library, O: Sink>(
     out: &mut O,
 ) -> Result<(), Stop>
     ensures ends { EndsBy (work_of L.held L.faults L.reads L.own_faults O.bytes O.faults (job_of (map string_bytes words.now)) files.old files.new out.old out.new) result }
-    ensures reads { ReadsOnce (work_of L.held L.faults L.reads L.own_faults O.bytes O.faults (job_of (map string_bytes words.now)) files.old files.new out.old out.new) }
+    ensures reads { ReadsAsNeeded (work_of L.held L.faults L.reads L.own_faults O.bytes O.faults (job_of (map string_bytes words.now)) files.old files.new out.old out.new) }
 {
     match read_words(alloc, words) {
-        Ok(Some(job)) => encode(alloc, job, files, out),
+        Ok(Some(job)) => finish(alloc, job, files, out),
         Ok(None) => Err(Stop::NotBuilt),
         Err(NoMemory) => Err(Stop::Memory),
     }
@@ -93,6 +100,9 @@ pub fn run<L: Library, O: Sink, E: Sink>(
 ) -> u8
     ensures headline { Headline (work_of L.held L.faults L.reads L.own_faults O.bytes O.faults (job_of (map string_bytes words.now)) files.old files.new out.old out.new) result }
     ensures complete { Complete (work_of L.held L.faults L.reads L.own_faults O.bytes O.faults (job_of (map string_bytes words.now)) files.old files.new out.old out.new) result }
+    ensures checks { Checks (work_of L.held L.faults L.reads L.own_faults O.bytes O.faults (job_of (map string_bytes words.now)) files.old files.new out.old out.new) result }
+    ensures lowers { Lowers (work_of L.held L.faults L.reads L.own_faults O.bytes O.faults (job_of (map string_bytes words.now)) files.old files.new out.old out.new) result }
+    ensures lifts { Lifts (work_of L.held L.faults L.reads L.own_faults O.bytes O.faults (job_of (map string_bytes words.now)) files.old files.new out.old out.new) result }
     ensures refused { RefusedExactly (work_of L.held L.faults L.reads L.own_faults O.bytes O.faults (job_of (map string_bytes words.now)) files.old files.new out.old out.new) result }
     ensures not_built { NotBuiltExactly (work_of L.held L.faults L.reads L.own_faults O.bytes O.faults (job_of (map string_bytes words.now)) files.old files.new out.old out.new) result }
     ensures unread { UnreadOnly (work_of L.held L.faults L.reads L.own_faults O.bytes O.faults (job_of (map string_bytes words.now)) files.old files.new out.old out.new) result }
@@ -101,7 +111,7 @@ pub fn run<L: Library, O: Sink, E: Sink>(
     ensures out { OutHolds (work_of L.held L.faults L.reads L.own_faults O.bytes O.faults (job_of (map string_bytes words.now)) files.old files.new out.old out.new) result }
     ensures notes { NotesHold (work_of L.held L.faults L.reads L.own_faults O.bytes O.faults (job_of (map string_bytes words.now)) files.old files.new out.old out.new)
         (record { before = E.bytes notes.old; after = E.bytes notes.new }) (record { before = E.faults notes.old; after = E.faults notes.new }) result }
-    ensures reads { ReadsOnce (work_of L.held L.faults L.reads L.own_faults O.bytes O.faults (job_of (map string_bytes words.now)) files.old files.new out.old out.new) }
+    ensures reads { ReadsAsNeeded (work_of L.held L.faults L.reads L.own_faults O.bytes O.faults (job_of (map string_bytes words.now)) files.old files.new out.old out.new) }
     ensures statuses { IsStatus result }
 {
     ended(alloc, words, files, out, notes)

@@ -1,5 +1,6 @@
 use Rattle.enc_run.proofs.Readings.{is_complete, refused_exactly, not_built_exactly, unread_only, unheld_is_unread, unwritten_only, out_holds, notes_hold, status_is_one}
 use Rattle.enc_run.proofs.Headline.{headline}
+use Rattle.enc_run.proofs.TablePromises.{checks, lowers, lifts}
 use Rattle.enc_run.proofs.top.run.Goals as goal
 
 pub returns-clause-headline : goal.returns-clause-headline
@@ -7,6 +8,15 @@ returns-clause-headline g c = headline _ _ _ _ c.ended.ensures
 
 pub returns-clause-complete : goal.returns-clause-complete
 returns-clause-complete g c = is_complete _ _ _ _ c.ended.ensures
+
+pub returns-clause-checks : goal.returns-clause-checks
+returns-clause-checks g c = checks _ _ _ _ c.ended.ensures
+
+pub returns-clause-lowers : goal.returns-clause-lowers
+returns-clause-lowers g c = lowers _ _ _ _ c.ended.ensures
+
+pub returns-clause-lifts : goal.returns-clause-lifts
+returns-clause-lifts g c = lifts _ _ _ _ c.ended.ensures
 
 pub returns-clause-refused : goal.returns-clause-refused
 returns-clause-refused g c = refused_exactly _ _ _ _ c.ended.ensures

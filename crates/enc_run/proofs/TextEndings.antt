@@ -1,0 +1,229 @@
+-- How the end of a part of a task on a problem's text makes the end of the task.
+use Rattle.std.proofs.Common.{◌≡◌, ◌∙◌, inl, inr, ℕ, List, Option, Some, Result, Ok, Err, true, refl, sym, ap, subst}
+use Rattle.std.specs.Prelude.{[], IsErr, IsErrAnd}
+use Rattle.std.specs.Io.KnownBytes.{Appends, Keeps}
+use Rattle.enc_base.specs.Library.{IsHeld}
+use Rattle.tf_core.specs.declared.problem.Problem.{Problem}
+use Rattle.enc_marks.specs.declared.refusal.Refusal.TheVariants as refusal
+use Rattle.enc_marks.specs.declared.scheme.Scheme.{Scheme}
+use Rattle.enc_marks.specs.declared.scheme.Scheme.TheVariants as scheme
+use Rattle.enc_pipeline.specs.Carried.{IsLoweredTo, IsUnlowered, IsLiftedTo, IsUnlifted}
+use Rattle.enc_pipeline.specs.Causes.{IsUnreadable, IsUnprepared}
+use Rattle.enc_pipeline.specs.Output.{output_of}
+use Rattle.enc_pipeline.specs.Reading.{HasProblem}
+use Rattle.enc_pipeline.specs.Stopped.{IsStopped}
+use Rattle.enc_pipeline.specs.Way.{Preparation}
+use Rattle.enc_pipeline.specs.declared.fault.Fault.{Fault}
+use Rattle.enc_pipeline.specs.declared.fault.Fault.TheVariants as fault
+use Rattle.enc_run.specs.Ending.{IsUnread}
+use Rattle.enc_run.specs.Job.{table_name}
+use Rattle.enc_run.specs.Leads.{is_taken, is_normalised, IsAccepted, IsAcceptable, IsOutputOf}
+use Rattle.enc_run.specs.Leads.{RefusesTable, Writes, preparation, untyped_problem}
+use Rattle.enc_run.specs.Parts.{ProblemEnds, IsWritten, EncodingEnds, HasPrepared, TextStops, TextEnds}
+use Rattle.enc_run.specs.Stop.{stop_of}
+use Rattle.enc_run.specs.Work.{Change, Work, Rises, OwnRises, HasText, HasTable}
+use Rattle.enc_run.specs.declared.job.Task.{Task}
+use Rattle.enc_run.specs.declared.job.Task.TheVariants.{Encode, Check, Lower, Lift}
+use Rattle.enc_run.specs.declared.stop.Stop.{Stop}
+use Rattle.enc_run.specs.declared.stop.Stop.TheVariants.{NotBuilt, Unread, Refused, Unwritten, Memory}
+
+-- what an error that is handed on ends with
+pub handed_on : {A E : Type 0} (Ends : Result A E → Type 0) (result : Result A E) (error : E)
+    → IsErr result × IsErrAnd result (λ other. other ≡ error) → Ends (Err error) → Ends result
+handed_on Ends (Ok value) error on ends = absurd on.1
+handed_on Ends (Err other) error on ends = subst (λ e. Ends (Err e)) (sym on.1) ends
+
+-- a text that has no problem stops each task
+pub unreadable_stops : (task : Task) (text : List ℕ) (reason : Fault) → IsUnreadable text reason
+    → TextStops task text (stop_of reason)
+unreadable_stops task text (fault.Reading reason) unread = unread
+unreadable_stops task text (fault.Typing reason) unread = unread
+unreadable_stops task text (fault.TooLarge nodes) unread = absurd unread
+unreadable_stops task text (fault.Scheme reason) unread = absurd unread
+unreadable_stops task text fault.Incomplete unread = absurd unread
+unreadable_stops task text (fault.Table reason) unread = absurd unread
+unreadable_stops task text (fault.NotModel formula) unread = absurd unread
+unreadable_stops task text fault.Write unread = absurd unread
+unreadable_stops task text fault.Memory unread = tt
+
+-- a problem that can't be prepared for `guards` stops each task that rests on its normal problem
+module _ (task : Task) (text : List ℕ) (problem : Problem) (has : HasProblem text problem)
+    (taken : is_taken task problem ≡ true) (normalised : is_normalised task ≡ true) where
+  pub unprepared_stops : (reason : Fault)
+      → IsUnprepared problem (preparation scheme.Guards problem).how reason
+      → TextStops task text (stop_of reason)
+  unprepared_stops (fault.Reading reason) why = absurd why
+  unprepared_stops (fault.Typing reason) why = absurd why
+  unprepared_stops (fault.TooLarge nodes) why =
+      (problem, has, taken, normalised, why.0, why.1)
+  unprepared_stops (fault.Scheme (refusal.NotMonomorphic name)) why =
+      let asks = why.2.0 in absurd cc
+  unprepared_stops (fault.Scheme (refusal.NotMonotone place)) why =
+      let none = why.2.1 in absurd cc
+  unprepared_stops (fault.Scheme (refusal.TableTooLarge entries)) why = absurd why.1
+  unprepared_stops (fault.Scheme refusal.Memory) why = absurd why.1
+  unprepared_stops fault.Incomplete why = absurd why
+  unprepared_stops (fault.Table reason) why = absurd why
+  unprepared_stops (fault.NotModel formula) why = absurd why
+  unprepared_stops fault.Write why = absurd why
+  unprepared_stops fault.Memory why = tt
+
+module _ (task : Task) (text : List ℕ) (w : Work) where
+  -- the task is stopped by its problem's text
+  pub text_stopped : (stop : Stop) → TextStops task text stop → Keeps w.out.before w.out.after
+      → TextEnds task text w (Err stop)
+  text_stopped NotBuilt stops kept = (stops, kept)
+  text_stopped (Unread name) stops kept = absurd stops
+  text_stopped (Refused reason) stops kept = (inl stops, kept)
+  text_stopped Unwritten stops kept = absurd stops
+  text_stopped Memory stops kept = kept
+
+  -- the task is stopped by the read of its table
+  pub table_unread : (name : List ℕ) → table_name task ≡ Some name → IsAcceptable task text
+      → (stop : Stop) → IsUnread name (Rises w.faults) (IsHeld w.held name → OwnRises w name) stop
+      → Keeps w.out.before w.out.after → TextEnds task text w (Err stop)
+  table_unread name is accepted NotBuilt why kept = absurd why
+  table_unread name is accepted (Unread unread) why kept =
+      let same = sym why.0 in (
+        is ∙ ap Some same,
+        accepted,
+        record { rises = why.1; own = subst (λ n. IsHeld w.held n → OwnRises w n) same why.2 },
+        kept,
+      )
+  table_unread name is accepted (Refused reason) why kept = absurd why
+  table_unread name is accepted Unwritten why kept = absurd why
+  table_unread name is accepted Memory why kept = kept
+
+  module _ (problem : Problem) (accepted : IsAccepted task text problem) (table : List ℕ)
+      (has : HasTable w task table) where
+    -- the task is stopped by its table, or in writing
+    pub table_stopped : (reason : Fault)
+        → IsStopped (RefusesTable task problem table) (Writes task problem table)
+        (Rises w.out_faults) w.out.before w.out.after reason
+        → TextEnds task text w (Err (stop_of reason))
+    table_stopped (fault.Reading reason) stopped =
+        (inr (table, has, (problem, accepted, stopped.0)), stopped.1)
+    table_stopped (fault.Typing reason) stopped =
+        (inr (table, has, (problem, accepted, stopped.0)), stopped.1)
+    table_stopped (fault.TooLarge nodes) stopped =
+        (inr (table, has, (problem, accepted, stopped.0)), stopped.1)
+    table_stopped (fault.Scheme reason) stopped =
+        (inr (table, has, (problem, accepted, stopped.0)), stopped.1)
+    table_stopped fault.Incomplete stopped =
+        (inr (table, has, (problem, accepted, stopped.0)), stopped.1)
+    table_stopped (fault.Table reason) stopped =
+        (inr (table, has, (problem, accepted, stopped.0)), stopped.1)
+    table_stopped (fault.NotModel formula) stopped =
+        (inr (table, has, (problem, accepted, stopped.0)), stopped.1)
+    table_stopped fault.Write stopped =
+        (stopped.1.0, (table, has, (problem, accepted, stopped.1.1)), stopped.1.2, stopped.0)
+    table_stopped fault.Memory stopped = stopped
+
+    -- the task is done
+    pub done : (output : List ℕ) → Writes task problem table output
+        → Appends w.out.before w.out.after output → TextEnds task text w (Ok tt)
+    done output writes written = (output, (table, has, (problem, accepted, writes)), written)
+
+-- ---- check
+
+-- each problem is accepted to be checked
+pub checked : (name text : List ℕ) (problem : Problem) → HasProblem text problem
+    → IsAccepted (Check name) text problem
+checked name text problem has =
+    record { has = has; taken = refl; within = λ normalised. absurd cc }
+
+-- ---- lower and lift
+
+module _ (which : Scheme) (name text : List ℕ) (p : Preparation) (is : HasPrepared which text p)
+  where
+    pub lowered : IsAccepted (Lower name which) text is.problem
+    lowered = record { has = is.has; taken = is.taken; within = λ normalised. is.within }
+
+    pub lifted : IsAccepted (Lift name which) text is.problem
+    lifted = record { has = is.has; taken = is.taken; within = λ normalised. is.within }
+
+    module _ (w : Work) (table : List ℕ) (has : HasText w name table) where
+      pub lowering_stopped : (reason : Fault)
+          → IsStopped (IsUnlowered p table) (IsLoweredTo p table) (Rises w.out_faults)
+          w.out.before w.out.after reason
+          → TextEnds (Lower name which) text w (Err (stop_of reason))
+      lowering_stopped reason stopped =
+          table_stopped (Lower name which) text w is.problem lowered table has reason
+          (subst (λ q. IsStopped (IsUnlowered q table) (IsLoweredTo q table) (Rises w.out_faults)
+          w.out.before w.out.after reason) is.is stopped)
+
+      pub lowering_done : (output : List ℕ) → IsLoweredTo p table output
+          → Appends w.out.before w.out.after output → TextEnds (Lower name which) text w (Ok tt)
+      lowering_done output carried written =
+          done (Lower name which) text w is.problem lowered table has output
+          (subst (λ q. IsLoweredTo q table output) is.is carried) written
+
+      pub lifting_stopped : (reason : Fault)
+          → IsStopped (IsUnlifted p table) (IsLiftedTo p table) (Rises w.out_faults)
+          w.out.before w.out.after reason
+          → TextEnds (Lift name which) text w (Err (stop_of reason))
+      lifting_stopped reason stopped =
+          table_stopped (Lift name which) text w is.problem lifted table has reason
+          (subst (λ q. IsStopped (IsUnlifted q table) (IsLiftedTo q table) (Rises w.out_faults)
+          w.out.before w.out.after reason) is.is stopped)
+
+      pub lifting_done : (output : List ℕ) → IsLiftedTo p table output
+          → Appends w.out.before w.out.after output → TextEnds (Lift name which) text w (Ok tt)
+      lifting_done output carried written =
+          done (Lift name which) text w is.problem lifted table has output
+          (subst (λ q. IsLiftedTo q table output) is.is carried) written
+
+-- ---- encode
+
+module _ (which : Scheme) (text : List ℕ) (out : Change (Option (List ℕ))) (faults : Change ℕ) where
+  abbrev pub Encodes : Result (Unit {0}) Stop → Type 0
+  Encodes = EncodingEnds which text out faults
+
+  -- the encoding is stopped by its text
+  pub encoding_stopped : (stop : Stop) → TextStops (Encode which) text stop
+      → Keeps out.before out.after → Encodes (Err stop)
+  encoding_stopped NotBuilt stops kept = (stops, kept)
+  encoding_stopped (Unread name) stops kept = absurd stops
+  encoding_stopped (Refused reason) stops kept = (stops, kept)
+  encoding_stopped Unwritten stops kept = absurd stops
+  encoding_stopped Memory stops kept = kept
+
+  module _ (problem : Problem) (has : HasProblem text problem) where
+    whole : {Part : List ℕ → Type 0} → IsWritten which problem Part
+        → IsOutputOf (Encode which) (output_of which (untyped_problem which problem)) text []
+    whole written = (
+      problem,
+      record { has = has; taken = written.taken; within = λ normalised. written.within },
+      refl,
+    )
+
+    -- the encoding of the text ends as that of its problem
+    pub encoding_ends : (end : Result (Unit {0}) Stop) → ProblemEnds which problem out faults end
+        → Encodes end
+    encoding_ends (Ok finished) ends =
+        (output_of which (untyped_problem which problem), whole ends, ends.written)
+    encoding_ends (Err NotBuilt) ends = ((problem, has, ends.0), ends.1)
+    encoding_ends (Err (Unread name)) ends = absurd ends.0
+    encoding_ends (Err (Refused (fault.TooLarge nodes))) ends =
+        ((problem, has, ends.0.0, refl, ends.0.1, ends.0.2), ends.1)
+    encoding_ends (Err (Refused (fault.Reading reason))) ends = absurd ends.0
+    encoding_ends (Err (Refused (fault.Typing reason))) ends = absurd ends.0
+    encoding_ends (Err (Refused (fault.Scheme reason))) ends = absurd ends.0
+    encoding_ends (Err (Refused fault.Incomplete)) ends = absurd ends.0
+    encoding_ends (Err (Refused (fault.Table reason))) ends = absurd ends.0
+    encoding_ends (Err (Refused (fault.NotModel formula))) ends = absurd ends.0
+    encoding_ends (Err (Refused fault.Write)) ends = absurd ends.0
+    encoding_ends (Err (Refused fault.Memory)) ends = absurd ends.0
+    encoding_ends (Err Unwritten) ends =
+        (output_of which (untyped_problem which problem), whole ends.0, ends.0.written, ends.1)
+    encoding_ends (Err Memory) ends = ends.1
+
+-- the task of encoding ends as the encoding
+pub encoded : (which : Scheme) (text : List ℕ) (w : Work) (end : Result (Unit {0}) Stop)
+    → EncodingEnds which text w.out w.out_faults end → TextEnds (Encode which) text w end
+encoded which text w (Ok finished) ends = (ends.0, ([], refl, ends.1), ends.2)
+encoded which text w (Err NotBuilt) ends = ends
+encoded which text w (Err (Unread name)) ends = absurd ends
+encoded which text w (Err (Refused reason)) ends = (inl ends.0, ends.1)
+encoded which text w (Err Unwritten) ends = (ends.0, ([], refl, ends.1), ends.2, ends.3)
+encoded which text w (Err Memory) ends = ends

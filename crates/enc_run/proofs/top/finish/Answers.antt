@@ -1,0 +1,35 @@
+use Rattle.std.proofs.Common.{refl}
+use Rattle.std.proofs.KnownBytes.{Keeps-refl}
+use Rattle.enc_run.specs.Ending.{EndsBy}
+use Rattle.enc_run.proofs.RunEndings.{reads_problem, problem_unread, run_ends, run_reads}
+use Rattle.enc_run.proofs.TextEndings.{handed_on}
+use Rattle.enc_run.proofs.top.finish.Goals as goal
+
+pub returns-in_err-text-clause-ends : goal.returns-in_err-text-clause-ends
+returns-in_err-text-clause-ends g c =
+    let stop = c.in_err-text.field-0.0 in
+    handed_on (EndsBy _) c.from_residual.result stop c.from_residual.ensures
+    (problem_unread _ c.args.job refl stop c.in_err-text.ensures.cause c.read_text.ensures.counted
+    (Keeps-refl _))
+
+pub returns-in_err-text-clause-reads : goal.returns-in_err-text-clause-reads
+returns-in_err-text-clause-reads g c =
+    reads_problem _ c.args.job refl c.read_text.ensures.counted
+
+pub returns-clause-ends : goal.returns-clause-ends
+returns-clause-ends g c =
+    let files = c.read_text.new.files in
+    let own = g.L.Library.own_faults files in
+    run_ends _ c.args.job refl c.in_ok-text.text.items c.in_ok-text.ensures.text
+    (g.L.Library.held files) c.read_text.ensures.same_files (g.L.Library.faults files)
+    (g.L.Library.reads files) own c.read_text.ensures.later c.read_text.ensures.own_later
+    c.perform.result (rw c.deref.ensures.value at c.perform.ensures.ends)
+
+pub returns-clause-reads : goal.returns-clause-reads
+returns-clause-reads g c =
+    let files = c.read_text.new.files in
+    let own = g.L.Library.own_faults files in
+    run_reads _ c.args.job refl c.in_ok-text.text.items c.in_ok-text.ensures.text
+    (g.L.Library.held files) c.read_text.ensures.same_files (g.L.Library.faults files)
+    (g.L.Library.reads files) own c.read_text.ensures.counted
+    (rw c.deref.ensures.value at c.perform.ensures.reads)
