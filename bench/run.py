@@ -1,5 +1,5 @@
 #!/usr/bin/env python3
-"""Measures the built program: bench/run.py [reading|typing|encoding|guards ..] [--most BYTES]
+"""Measures the built program: bench/run.py [reading|typing|encoding|guards|tables|models ..] [--most BYTES]
 
 Each text of a family is made at doubling sizes. For each the table gives the time per byte of input, the peak memory per
 byte, and the ratio to the time of `wc -w` on the same file, the least of three runs in one sitting. A text ends in an
@@ -9,6 +9,9 @@ entry that is refused at the stage behind the one that is measured, so that only
   encoding   nothing is refused, and the output is thrown away
   guards     the typed lists are encoded by guards: the time is that per byte of output, and where the peer why3 is
              installed its time for the same file by guards is told too, as a multiple
+  tables     a table with as many entries as there may be is checked
+  models     models of the list problem are lowered, and what is written is lifted: the time is that per entry of the
+             lowered table
 Last come the greatest over the least time per byte of each family from 1 MiB on, and the targets that are missed."""
 import argparse
 import os
@@ -18,10 +21,11 @@ import sys
 import tempfile
 import time
 
+import tables
+
 HERE = os.path.dirname(os.path.abspath(__file__))
 TFENC = os.path.join(os.path.dirname(HERE), 'tfenc')
 MOST = 16777216
-WHY3_DRIVER = '/usr/share/why3/drivers/eprover.drv'
 
 BAD_WORD = 'fof(last,axiom,p & .\n'
 TWO_CONJECTURES = 'fof(a,conjecture,p).\nfof(b,conjecture,p).\n'
@@ -108,10 +112,19 @@ def best(words, output=os.devnull, runs=3):
     return min(run[0] for run in made), max(run[1] for run in made), made[0][2]
 
 
+def why3_driver():
+    """The driver by which why3 writes TPTP, or nothing where why3 isn't installed."""
+    if not shutil.which('why3'):
+        return None
+    folder = subprocess.run(['why3', '--print-datadir'], capture_output=True, text=True).stdout.strip()
+    driver = os.path.join(folder, 'drivers', 'eprover.drv')
+    return driver if os.path.exists(driver) else None
+
+
 def guards(options, base, missed):
     """The typed lists by guards, at three numbers of types and as a text of 16 MiB."""
     print(f'{"guards":9} {"types":>12} {"bytes":>10} {"output":>10} {"ns/byte":>9} {"memory/byte":>12} {"why3":>9}')
-    times = []
+    times, driver = [], why3_driver()
     goal = 'tff(go,conjecture,p0(t0,c0,cons(t0,c0,nil(t0)))).\n'
     for types in (50, 500, 2000, None):
         text = typed_lists(options.most - len(goal) - 200) if types is None else typed_lists(MOST, types)
@@ -123,8 +136,8 @@ def guards(options, base, missed):
             seconds, memory, status = best([TFENC, 'encode', file], output)
             written = os.path.getsize(output)
             peer = ''
-            if types is not None and shutil.which('why3') and os.path.exists(WHY3_DRIVER):
-                words = ['why3', 'prove', '-F', 'tptp', '-D', WHY3_DRIVER, '-M', 'enco_poly=guards', file]
+            if types is not None and driver:
+                words = ['why3', 'prove', '-F', 'tptp', '-D', driver, '-M', 'enco_poly=guards', file]
                 theirs, _, their_status = best(words, runs=1)
                 peer = f'{theirs / seconds:.0f} times' if their_status == 0 else f'status {their_status}'
                 if types == 2000 and their_status == 0 and theirs < 20 * seconds:
@@ -143,6 +156,51 @@ def guards(options, base, missed):
         missed.append(f'guards: {max(times) / min(times):.1f} times the least time per byte of output')
 
 
+def greatest_table(base, missed):
+    """The table with as many entries as there may be is checked for the empty problem."""
+    with tempfile.TemporaryDirectory() as folder:
+        problem, table = os.path.join(folder, 'p'), os.path.join(folder, 't')
+        open(problem, 'w').close()
+        with open(table, 'w') as out:
+            entries = tables.write_greatest(out)
+        seconds, memory, status = best([TFENC, 'check', problem, table], runs=2)
+        words, _, _ = best(['wc', '-w', table], runs=2)
+    room = max(0, memory - base) / entries
+    print(f'{"tables":9} {"greatest":12} {entries:10} {seconds / entries * 1e9:9.1f} {room:12.1f} {seconds / words:12.1f}')
+    sys.stdout.flush()
+    if status != 0:
+        missed.append(f'tables: status {status}')
+    if seconds > 12 * words:
+        missed.append(f'tables: {seconds / words:.1f} times wc -w')
+    if room > 8:
+        missed.append(f'tables: {room:.1f} bytes of memory per entry')
+
+
+def models(base, missed):
+    """Models of the list problem at growing sizes, there and back."""
+    times = {'lower': [], 'lift': []}
+    for members, elements in ((10, 4), (12, 6), (16, 9), (20, 11)):
+        text, _ = tables.list_model(members, elements)
+        with tempfile.TemporaryDirectory() as folder:
+            problem, table, lowered = (os.path.join(folder, name) for name in ('p', 't', 'u'))
+            for name, content in ((problem, tables.LIST_PROBLEM), (table, text)):
+                with open(name, 'w') as out:
+                    out.write(content)
+            size = members * (elements + 1)
+            entries = size + 2 * size + 2 * size**3 + size**2 + 1
+            for action, source, output in (('lower', table, lowered), ('lift', lowered, os.devnull)):
+                seconds, memory, status = best([TFENC, action, problem, source], output, runs=2)
+                room = max(0, memory - base) / entries
+                times[action].append(seconds / entries)
+                print(f'{"models":9} {action:12} {entries:10} {seconds / entries * 1e9:9.1f} {room:12.1f}')
+                sys.stdout.flush()
+                if status != 0:
+                    missed.append(f'models {action} {entries}: status {status}')
+    for action, each in times.items():
+        if max(each[1:]) > 2 * min(each[1:]):
+            missed.append(f'models {action}: {max(each[1:]) / min(each[1:]):.1f} times the least time per entry')
+
+
 def main():
     parser = argparse.ArgumentParser(description=__doc__, formatter_class=argparse.RawDescriptionHelpFormatter)
     parser.add_argument('stages', nargs='*', default=[])
@@ -151,9 +209,15 @@ def main():
     missed = []
     base = measured([TFENC])[1]
     print(f'{"stage":9} {"family":12} {"bytes":>10} {"ns/byte":>9} {"memory/byte":>12} {"times wc -w":>12}')
-    for stage in options.stages or [*FAMILIES, 'guards']:
+    for stage in options.stages or [*FAMILIES, 'guards', 'tables', 'models']:
         if stage == 'guards':
             guards(options, base, missed)
+            continue
+        if stage == 'tables':
+            greatest_table(base, missed)
+            continue
+        if stage == 'models':
+            models(base, missed)
             continue
         for family, make in FAMILIES[stage].items():
             times = []
