@@ -2,6 +2,7 @@ pub mod formers
 pub mod Counts
 pub mod Library
 pub mod Sink
+pub mod Pending
 pub mod MemoryLibrary
 pub mod MemorySink
 pub mod Host

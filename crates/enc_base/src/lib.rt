@@ -1,4 +1,4 @@
-//! Names, lists, boxes, the library of input files and the sink of output.
+//! Names, lists, boxes, the library of input files, and the sink of output with what waits for it.
 #![tactic(auto)]
 
 mod boxed;
@@ -9,6 +9,7 @@ mod list;
 mod memory_library;
 mod memory_sink;
 mod name;
+mod pending;
 mod sink;
 
 pub use boxed::Boxed;
@@ -19,7 +20,5 @@ pub use list::List;
 pub use memory_library::{MemoryLibrary, StoredFile};
 pub use memory_sink::MemorySink;
 pub use name::Name;
+pub use pending::Pending;
 pub use sink::Sink;
-
-#[cfg(test)]
-mod tests;
