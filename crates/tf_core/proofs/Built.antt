@@ -3,6 +3,7 @@ use Rattle.std.specs.Prelude.{ℕ, ◌≡◌, ◌<◌, Bool, List, map, get_or, 
 use Rattle.std.specs.List.{list_all}
 use Rattle.std.proofs.Common.{sym, ap, ◌∙◌}
 use Rattle.std.proofs.lemmas.Bool.{ltb-true}
+use Rattle.std.proofs.lemmas.List.Folds.{list_all-map}
 use Rattle.tf_core.specs.declared.ty.Ty.{Ty}
 use Rattle.tf_core.specs.declared.ty.Ty.TheVariants as type
 use Rattle.tf_core.specs.declared.term.Term.{Term}
@@ -40,18 +41,25 @@ module _ (by from : ℕ) (t : Term) where
       ap (λ x. term.Apply f x made) same ∙ ap (term.Apply f types) built
       ∙ sym (ap (shift by from) is ∙ shift-apply by from f types terms)
 
--- what is asked of a term's parts
+-- what is asked of a shifted term's parts
 
-pub variable_below : (bound : ℕ) (t : Term) (i : ℕ) → t ≡ term.Var i →
-    IsTrue (variables_below bound t) → i < bound
-variable_below bound t i is below =
-    ltb-true i bound (sym (variables_below-variable bound i) ∙ ap (variables_below bound) (sym is) ∙ below)
+module _ (bound by from : ℕ) (t : Term) where
+  pub raised_below : (i : ℕ) → t ≡ term.Var i → IsTrue (variables_below bound (shift by from t)) →
+      raised by from i < bound
+  raised_below i is below =
+      ltb-true (raised by from i) bound
+      (sym (variables_below-variable bound (raised by from i))
+      ∙ ap (variables_below bound) (sym (shift-variable by from i))
+      ∙ ap (λ x. variables_below bound (shift by from x)) (sym is) ∙ below)
 
-pub arguments_below : (bound : ℕ) (t : Term) (f : ℕ) (types : List Ty) (terms : List Term) →
-    t ≡ term.Apply f types terms → IsTrue (variables_below bound t) →
-    IsTrue (list_all (variables_below bound) terms)
-arguments_below bound t f types terms is below =
-    sym (variables_below-apply bound f types terms) ∙ ap (variables_below bound) (sym is) ∙ below
+  pub arguments_below : (f : ℕ) (types : List Ty) (terms : List Term) →
+      t ≡ term.Apply f types terms → IsTrue (variables_below bound (shift by from t)) →
+      IsTrue (list_all (λ x. variables_below bound (shift by from x)) terms)
+  arguments_below f types terms is below =
+      sym (list_all-map (variables_below bound) (shift by from) terms)
+      ∙ sym (variables_below-apply bound f types (map (shift by from) terms))
+      ∙ ap (variables_below bound) (sym (shift-apply by from f types terms))
+      ∙ ap (λ x. variables_below bound (shift by from x)) (sym is) ∙ below
 
 -- terms with their types replaced
 

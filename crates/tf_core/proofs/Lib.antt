@@ -23,3 +23,5 @@ pub mod TypedNnf
 pub mod TypedProblems
 pub mod TypingKept
 pub mod NnfTypingKept
+pub mod Values
+pub mod Occurrences

@@ -17,7 +17,7 @@ use Rattle.tf_core.proofs.Types.{instantiate-variable, instantiate-apply}
 use Rattle.tf_core.proofs.Substitution.{shift-variable, shift-apply, substitute_term-variable, substitute_term-apply}
 
 -- the item that stands at an index
-at_all : {A : Type 0} (P : A → Type 0) (items : List A) (i : ℕ) (item : A) →
+pub at_all : {A : Type 0} (P : A → Type 0) (items : List A) (i : ℕ) (item : A) →
     AllByRecursion P items → slice_get items i ≡ Some item → P item
 at_all P [] i item all at = cc
 at_all P (first ∷ items) zero item all at =

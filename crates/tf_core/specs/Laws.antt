@@ -1,5 +1,5 @@
 -- What the definitions promise one another.
-use Rattle.std.specs.Prelude.{ℕ, ◌<◌, ◌+◌, ◌≡◌, ◌↔◌, Bool, List, ◌∷◌, ◌++◌, map, length, get_or, IsTrue}
+use Rattle.std.specs.Prelude.{ℕ, ◌<◌, ◌+◌, ◌≡◌, ◌↔◌, Bool, List, ◌∷◌, ◌++◌, map, length, replicate, get_or, IsTrue}
 use Rattle.enc_base.specs.Tables.{EachBelow, begins, blocks}
 use Rattle.tf_core.specs.declared.ty.Ty.{Ty}
 use Rattle.tf_core.specs.declared.term.Term.{Term}
@@ -9,13 +9,14 @@ use Rattle.tf_core.specs.declared.nnf.Nnf.{Nnf}
 use Rattle.tf_core.specs.declared.nnf.Nnf.TheVariants as nnf
 use Rattle.tf_core.specs.declared.signature.Signature.{Signature}
 use Rattle.tf_core.specs.Types.{type_value, instantiate}
-use Rattle.tf_core.specs.Structures.{Typed, size_of, member_of}
+use Rattle.tf_core.specs.Structures.{Typed, member_count, size_of, member_of, IsStructure}
 use Rattle.tf_core.specs.Truth.{value, truth, normal_truth}
 use Rattle.tf_core.specs.declared.problem.Problem.{Problem}
 use Rattle.tf_core.specs.declared.normal.Normal.{Normal}
 use Rattle.tf_core.specs.Typing.{IsType, AreTypes, HasType, IsNnf, IsSignature, IsProblem, IsNormal}
 use Rattle.tf_core.specs.TypingTests.{is_signature, is_problem, is_normal}
 use Rattle.tf_core.specs.Substitution.{shift, substitute_term, substitute_types}
+use Rattle.tf_core.specs.Occurrences.{occurs_in, AgreeWhere}
 
 -- a test of a formula's elements holds of each element of a type's member, and of some
 abbrev pub AtEach : Typed → List ℕ → Ty → (ℕ → Bool) → Type 0
@@ -92,6 +93,28 @@ pub record SubstitutionKeepsTyping : Type 0 where
   pub normal : (g : Signature) (others : ℕ) (instances context : List Ty) (p : Nnf) →
       IsSignature g → AreTypes g others instances → IsNnf g (length instances) context p →
       IsNnf g others (map (instantiate instances) context) (substitute_types instances p)
+
+-- the sizes of the members that the types of a context are
+abbrev pub context_sizes : Typed → List ℕ → List Ty → List ℕ
+context_sizes s members types = map (λ ty. size_of s (member_of s members ty)) types
+
+-- The value of a type is a member, and the value of a term an element of its type's member: in a
+-- structure, where type variables have members, and term variables elements of their types' members.
+pub record ValuesAreInRange : Type 0 where
+  pub type : (g : Signature) (s : Typed) (variables : ℕ) (members : List ℕ) (ty : Ty) →
+      IsStructure g s → EachBelow (replicate variables (member_count s)) members →
+      IsType g variables ty → member_of s members ty < member_count s
+  pub term : (g : Signature) (s : Typed) (variables : ℕ) (members elements : List ℕ)
+      (context : List Ty) (t : Term) (ty : Ty) → IsSignature g → IsStructure g s →
+      EachBelow (replicate variables (member_count s)) members →
+      EachBelow (context_sizes s members context) elements → HasType g variables context t ty →
+      value s members elements t < size_of s (member_of s members ty)
+
+-- The truth of a formula depends on the members of those type variables alone that occur in it.
+abbrev pub TruthDependsOnOccurring : Type 0
+TruthDependsOnOccurring = (s : Typed) (members others elements : List ℕ) (body : Formula) →
+    AgreeWhere (λ i. occurs_in i body) members others →
+    truth s members body elements ≡ truth s others body elements
 
 -- the tests of typing say what the relations say
 pub record TypingIsDecided : Type 0 where

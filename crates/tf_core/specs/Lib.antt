@@ -10,4 +10,5 @@ pub mod Substitution
 pub mod Sorts
 pub mod Counts
 pub mod Sound
+pub mod Occurrences
 pub mod Laws

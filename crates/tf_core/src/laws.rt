@@ -1,4 +1,4 @@
-ghost use Rattle.tf_core.specs.Laws.{UniversalIsTrueOfEach, ExistentialIsTrueOfSome, EntriesStandInBlocks, InstancesHaveValues, ShiftedTermsHaveValues, SubstitutionKeepsTruth, InstancesAreTyped, ShiftedTermsAreTyped, SubstitutionKeepsTyping, TypingIsDecided};
+ghost use Rattle.tf_core.specs.Laws.{UniversalIsTrueOfEach, ExistentialIsTrueOfSome, EntriesStandInBlocks, InstancesHaveValues, ShiftedTermsHaveValues, SubstitutionKeepsTruth, InstancesAreTyped, ShiftedTermsAreTyped, SubstitutionKeepsTyping, ValuesAreInRange, TruthDependsOnOccurring, TypingIsDecided};
 
 /// A universal formula is true exactly where its body is true of each element of the type's member.
 pub fn universal_is_true_of_each()
@@ -43,6 +43,16 @@ pub fn shifted_terms_are_typed()
 /// Terms and formulas with their types replaced are well typed where they were before.
 pub fn substitution_keeps_typing()
     ensures { SubstitutionKeepsTyping }
+{}
+
+/// The value of a type is a member, and the value of a term an element of its type's member.
+pub fn values_are_in_range()
+    ensures { ValuesAreInRange }
+{}
+
+/// The truth of a formula depends only on the members of the type variables that occur in it.
+pub fn truth_depends_on_occurring()
+    ensures { TruthDependsOnOccurring }
 {}
 
 /// The tests of typing say what the typing relations say.

@@ -15,8 +15,6 @@ mod scope;
 mod signature;
 mod term;
 mod terms;
-#[cfg(test)]
-mod tests;
 mod ty;
 mod typing;
 
@@ -25,8 +23,8 @@ pub use instance::{is_instance, same_instance};
 pub use laws::{
     entries_stand_in_blocks, existential_is_true_of_some, instances_are_typed,
     instances_have_values, shifted_terms_are_typed, shifted_terms_have_values,
-    substitution_keeps_truth, substitution_keeps_typing, typing_is_decided,
-    universal_is_true_of_each,
+    substitution_keeps_truth, substitution_keeps_typing, truth_depends_on_occurring,
+    typing_is_decided, universal_is_true_of_each, values_are_in_range,
 };
 pub use nnf::{Nnf, copy_parts, same_parts};
 pub use normal::{Normal, NormalFormula, copy_normal_formulas, same_normal_formulas};

@@ -1,4 +1,4 @@
-ghost use Rattle.std.specs.Prelude.{◌≡◌, ◌↔◌, ◌<◌, ◌-◌, ◌^◌, IsTrue, IfOk, map};
+ghost use Rattle.std.specs.Prelude.{◌≡◌, ◌↔◌, ◌<◌, ◌^◌, IsTrue, IfOk, map};
 ghost use Rattle.std.specs.List.{list_all};
 ghost use Rattle.tf_core.specs.Substitution.{raised, variables_below, shift, substitute_term};
 
@@ -49,10 +49,10 @@ impl Term {
     }
 
     /// The term with each variable at or above `from` raised by `by`: what it is behind so many new
-    /// binders. No raised variable passes 2^32 - 1.
+    /// binders. Each sum is below 2^32; a variable below `from` has none.
     #[cycle(shift)]
     pub fn shift(&self, alloc: Global, by: u32, from: u32) -> Result<Term, NoMemory>
-        requires bound { IsTrue (variables_below (2 ^ 32 - by) self.now) }
+        requires sums { IsTrue (variables_below (2 ^ 32) (shift by from self.now)) }
         ensures exact { IfOk result (λ term. term ≡ shift by from self.now) }
     {
         match self {
@@ -83,7 +83,7 @@ impl Term {
 
 // a variable raised where it stands at or above a bound
 fn raise(i: u32, by: u32, from: u32) -> u32
-    requires { i < 2 ^ 32 - by }
+    requires { raised by from i < 2 ^ 32 }
     ensures { result ≡ raised by from i }
 {
     if i < from { i } else { i + by }
@@ -92,7 +92,7 @@ fn raise(i: u32, by: u32, from: u32) -> u32
 // each of the terms shifted
 #[cycle(shift)]
 fn shifted(alloc: Global, terms: &[Term], by: u32, from: u32) -> Result<List<Term>, NoMemory>
-    requires { IsTrue (list_all (variables_below (2 ^ 32 - by)) terms.now) }
+    requires { IsTrue (list_all (λ t. variables_below (2 ^ 32) (shift by from t)) terms.now) }
     ensures { IfOk result (λ made. made ≡ map (shift by from) terms.now) }
 {
     let mut made = List::new(alloc);

@@ -16,11 +16,11 @@ use Rattle.tf_models.specs.Assignment.{Assignment}
 use Rattle.tf_models.specs.Reading.{tables}
 use Rattle.tf_models.specs.TupleNumbers.{tuple_at}
 use Rattle.tf_models.specs.Fit.{bounds_at, ConstructorsFit, parameters_at, length_at, block_count}
-use Rattle.tf_models.specs.Evaluation.{member_in, value_in, entry_in, IsReady, IsBlock, AreTerms, IsApplication, IsApplied, IsPlaced}
+use Rattle.tf_models.specs.Evaluation.{member_in, size_in, value_in, entry_in, IsReady, IsBlock, IsElement, AreTerms, IsApplication, IsApplied, IsPlaced}
 use Rattle.tf_models.proofs.Placing.{placed_within}
 use Rattle.tf_models.proofs.NumberedTuples.{length-tuple_at, place-tuple_at, tuple_at_below, tuple_at-place, total-numbered, begins-numbered, sum_below-grows, sum_below-part}
 use Rattle.tf_models.proofs.SymbolBlocks.{block_positive, blocks_fit}
-use Rattle.tf_models.proofs.Values.{symbol_typed, sizes-instantiate, values_below}
+use Rattle.tf_models.proofs.Values.{symbol_typed, sizes-instantiate, value_below, values_below}
 
 -- the constructors' tables of a well-formed structure
 pub constructors_fit : (g : Signature) (s : TypedStructure) → IsWellFormed g (tables s) →
@@ -94,6 +94,15 @@ module _ (g : Signature) (s : TypedStructure) (ready : IsReady g s) where
         blocks_fit (block_count (tables s) symbol) (length_at (tables s) symbol)
             (λ n within. block_positive g s symbol n (symbol_block f symbol at n within)),
       )
+
+  -- the value of a term is an element of its type's member
+  pub element_is : (env : Assignment) (t : Term) (held : ℕ) → held ≡ value_in g s env t →
+      IsElement g s env t held
+  element_is env t held is context ty assigned typed =
+      subst (λ n. n < size_in s env.members ty) (sym is)
+      (value_below g (reading g (tables s)) ready.typed ready.well_formed.structure
+      (length env.members) env.members assigned.members context (reverse env.elements)
+      assigned.elements t ty typed)
 
   module _ (env : Assignment) (f : ℕ) (symbol : Symbol) (types : List Ty) (terms : List Term)
       (a : IsApplication g s env f symbol types terms)

@@ -260,19 +260,6 @@ module _ (g : Signature) (s : TypedStructure) (env : Assignment) (p a b : Formul
     (first second held : Bool) (first_is : first ≡ true_in g s env a)
     (second_is : second ≡ true_in g s env b)
   where
-    pub implies_is : p ≡ formula.Implies a b → held ≡ (implies first second) → held
-        ≡ true_in g s env p
-    implies_is is at =
-        at ∙ ap (λ x. implies x second) first_is ∙ ap (λ x. implies (true_in g s env a) x) second_is
-        ∙ sym (ap (true_in g s env) is
-        ∙ truth-implies (reading g (tables s)) env.members a b (reverse env.elements))
-
-    pub if_is : p ≡ formula.If a b → held ≡ (implies second first) → held ≡ true_in g s env p
-    if_is is at =
-        at ∙ ap (λ x. implies second x) first_is ∙ ap (λ x. implies x (true_in g s env a)) second_is
-        ∙ sym (ap (true_in g s env) is
-        ∙ truth-if (reading g (tables s)) env.members a b (reverse env.elements))
-
     pub iff_is : p ≡ formula.Iff a b → held ≡ (iff first second) → held ≡ true_in g s env p
     iff_is is at =
         at ∙ ap (λ x. iff x second) first_is ∙ ap (λ x. iff (true_in g s env a) x) second_is
@@ -286,19 +273,78 @@ module _ (g : Signature) (s : TypedStructure) (env : Assignment) (p a b : Formul
         ∙ sym (ap (true_in g s env) is
         ∙ truth-xor (reading g (tables s)) env.members a b (reverse env.elements))
 
-    pub nand_is : p ≡ formula.Nand a b → held ≡ (not (first && second)) → held ≡ true_in g s env p
-    nand_is is at =
-        at ∙ ap (λ x. not (x && second)) first_is ∙ ap (λ x. not ((true_in g s env a) && x))
-        second_is
-        ∙ sym (ap (true_in g s env) is
-        ∙ truth-nand (reading g (tables s)) env.members a b (reverse env.elements))
+or_true : (b : Bool) → (b || true) ≡ true
+or_true true = refl
+or_true false = refl
 
-    pub nor_is : p ≡ formula.Nor a b → held ≡ (not (first || second)) → held ≡ true_in g s env p
-    nor_is is at =
-        at ∙ ap (λ x. not (x || second)) first_is ∙ ap (λ x. not ((true_in g s env a) || x))
+or_false : (b : Bool) → (b || false) ≡ b
+or_false true = refl
+or_false false = refl
+
+-- of two parts, of which the first decides or leaves it to the second
+module _ (g : Signature) (s : TypedStructure) (env : Assignment) (p a b : Formula)
+    (first : Bool) (first_is : first ≡ true_in g s env a)
+  where
+    found : (truth_of : Bool → Bool) (decided : Bool) → first ≡ decided →
+        truth_of (true_in g s env a) ≡ truth_of decided
+    found truth_of decided is = ap truth_of (sym first_is ∙ is)
+
+    pub implies_decided : p ≡ formula.Implies a b → first ≡ false → true ≡ true_in g s env p
+    implies_decided is decides =
+        sym (ap (true_in g s env) is
+        ∙ truth-implies (reading g (tables s)) env.members a b (reverse env.elements)
+        ∙ found (λ x. implies x (true_in g s env b)) false decides)
+
+    pub implies_open : (second : Bool) → p ≡ formula.Implies a b → first ≡ true →
+        second ≡ true_in g s env b → second ≡ true_in g s env p
+    implies_open second is opens second_is =
         second_is
         ∙ sym (ap (true_in g s env) is
-        ∙ truth-nor (reading g (tables s)) env.members a b (reverse env.elements))
+        ∙ truth-implies (reading g (tables s)) env.members a b (reverse env.elements)
+        ∙ found (λ x. implies x (true_in g s env b)) true opens)
+
+    pub if_decided : p ≡ formula.If a b → first ≡ true → true ≡ true_in g s env p
+    if_decided is decides =
+        sym (ap (true_in g s env) is
+        ∙ truth-if (reading g (tables s)) env.members a b (reverse env.elements)
+        ∙ found (λ x. implies (true_in g s env b) x) true decides ∙ or_true (not (true_in g s env b)))
+
+    pub if_open : (second : Bool) → p ≡ formula.If a b → first ≡ false →
+        second ≡ true_in g s env b → not second ≡ true_in g s env p
+    if_open second is opens second_is =
+        ap not second_is
+        ∙ sym (ap (true_in g s env) is
+        ∙ truth-if (reading g (tables s)) env.members a b (reverse env.elements)
+        ∙ found (λ x. implies (true_in g s env b) x) false opens
+        ∙ or_false (not (true_in g s env b)))
+
+    pub nand_decided : p ≡ formula.Nand a b → first ≡ false → true ≡ true_in g s env p
+    nand_decided is decides =
+        sym (ap (true_in g s env) is
+        ∙ truth-nand (reading g (tables s)) env.members a b (reverse env.elements)
+        ∙ found (λ x. not (x && (true_in g s env b))) false decides)
+
+    pub nand_open : (second : Bool) → p ≡ formula.Nand a b → first ≡ true →
+        second ≡ true_in g s env b → not second ≡ true_in g s env p
+    nand_open second is opens second_is =
+        ap not second_is
+        ∙ sym (ap (true_in g s env) is
+        ∙ truth-nand (reading g (tables s)) env.members a b (reverse env.elements)
+        ∙ found (λ x. not (x && (true_in g s env b))) true opens)
+
+    pub nor_decided : p ≡ formula.Nor a b → first ≡ true → false ≡ true_in g s env p
+    nor_decided is decides =
+        sym (ap (true_in g s env) is
+        ∙ truth-nor (reading g (tables s)) env.members a b (reverse env.elements)
+        ∙ found (λ x. not (x || (true_in g s env b))) true decides)
+
+    pub nor_open : (second : Bool) → p ≡ formula.Nor a b → first ≡ false →
+        second ≡ true_in g s env b → not second ≡ true_in g s env p
+    nor_open second is opens second_is =
+        ap not second_is
+        ∙ sym (ap (true_in g s env) is
+        ∙ truth-nor (reading g (tables s)) env.members a b (reverse env.elements)
+        ∙ found (λ x. not (x || (true_in g s env b))) false opens)
 
 pub beq-iff : (a b : Bool) → beq a b ≡ iff a b
 beq-iff true true = refl

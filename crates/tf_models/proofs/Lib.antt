@@ -8,6 +8,9 @@ pub mod Entries
 pub mod TermPlaces
 pub mod FormulaParts
 pub mod NextTuple
+pub mod Varying
+pub mod OccurringParts
+pub mod EvenBlocks
 pub mod Satisfied
 pub mod StatedParts
 pub mod Counting

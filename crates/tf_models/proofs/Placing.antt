@@ -4,6 +4,7 @@ use Rattle.std.proofs.lemmas.List.{take_all}
 use Rattle.enc_base.specs.Tables.{EachBelow, tuple_count, place}
 use Rattle.enc_base.proofs.Tables.{place_within}
 use Rattle.tf_models.specs.Evaluation.{IsPlaced}
+pub use Rattle.tf_core.proofs.Values.{EachBelow-at}
 
 pub EachBelow-take : (bounds values : List ℕ) (i : ℕ) → EachBelow bounds values →
     EachBelow (take i bounds) (take i values)
@@ -22,15 +23,6 @@ EachBelow-same_length [] (value ∷ values) below = absurd below
 EachBelow-same_length (bound ∷ bounds) [] below = absurd below
 EachBelow-same_length (bound ∷ bounds) (value ∷ values) below =
     omega (arith, EachBelow-same_length bounds values below.1)
-
-pub EachBelow-at : (bounds values : List ℕ) (i : ℕ) → EachBelow bounds values → i < length bounds →
-    get_or values i 0 < get_or bounds i 0
-EachBelow-at [] [] i below within = absurd (omega arith)
-EachBelow-at [] (value ∷ values) i below within = absurd below
-EachBelow-at (bound ∷ bounds) [] i below within = absurd below
-EachBelow-at (bound ∷ bounds) (value ∷ values) zero below within = below.0
-EachBelow-at (bound ∷ bounds) (value ∷ values) (suc i) below within =
-    EachBelow-at bounds values i below.1 (omega arith)
 
 tuple_count-take : (bounds : List ℕ) (i : ℕ) → i < length bounds →
     tuple_count (take (suc i) bounds) ≡ tuple_count (take i bounds) * get_or bounds i 0

@@ -1,6 +1,6 @@
--- Satisfaction, by all tuples of members in their order.
-use Rattle.std.specs.Prelude.{ℕ, zero, suc, ◌≡◌, ◌<◌, ◌+◌, ◌-◌, Bool, false, List, [], length, replicate, reverse, IsTrue}
-use Rattle.std.proofs.Common.{refl, sym, ap, subst, ◌∙◌, arith, ⊎_elim}
+-- Satisfaction, by tuples of members in their order, in which only variables that occur vary.
+use Rattle.std.specs.Prelude.{ℕ, ◌≡◌, ◌<◌, ◌+◌, ◌-◌, Bool, false, List, [], length, replicate, reverse, IsTrue}
+use Rattle.std.proofs.Common.{sym, ap, subst, ◌∙◌, arith, ⊎_elim}
 use Rattle.std.proofs.lemmas.Bool.{false≢true, cases_eq}
 use Rattle.enc_base.specs.Tables.{EachBelow, tuple_count, place}
 use Rattle.enc_base.proofs.Tables.{place_within, EachBelow-length}
@@ -9,66 +9,58 @@ use Rattle.tf_core.specs.declared.signature.Signature.{Signature}
 use Rattle.tf_core.specs.Typing.{IsFormula}
 use Rattle.tf_core.specs.Truth.{truth}
 use Rattle.tf_core.specs.Models.{IsSatisfied}
+use Rattle.tf_core.specs.Occurrences.{occurs_in}
 use Rattle.tf_core.specs.TypedTables.{reading}
+use Rattle.tf_core.proofs.Occurrences.{truth-agrees}
 use Rattle.tf_models.specs.declared.structure.TypedStructure.{TypedStructure}
 use Rattle.tf_models.specs.Assignment.{Assignment}
 use Rattle.tf_models.specs.Reading.{tables}
-use Rattle.tf_models.specs.TupleNumbers.{tuple_at, IsNext, IsLast}
+use Rattle.tf_models.specs.TupleNumbers.{IsNext, IsLast, IsUsed}
+use Rattle.tf_models.specs.Search.{tried}
 use Rattle.tf_models.specs.Evaluation.{true_in, IsTrueOrFalse}
-use Rattle.tf_models.proofs.NumberedTuples.{tuple_at-place}
-
--- the first tuple
-pub first_below : (count bound : ℕ) → 0 < bound → EachBelow (replicate count bound)
-    (replicate count 0)
-first_below zero bound positive = tt
-first_below (suc count) bound positive = (positive, first_below count bound positive)
-
-pub place-first : (count bound : ℕ) → place (replicate count bound) (replicate count 0) ≡ 0
-place-first zero bound = refl
-place-first (suc count) bound = omega (arith, place-first count bound)
-
--- tuples with one place are one
-pub same_place : (count bound : ℕ) (first second : List ℕ) → 0 < bound →
-    EachBelow (replicate count bound) first → EachBelow (replicate count bound) second →
-    place (replicate count bound) first ≡ place (replicate count bound) second → first ≡ second
-same_place count bound first second positive below also same =
-    sym (tuple_at-place bound positive count first below)
-    ∙ ap (tuple_at bound count) same
-    ∙ tuple_at-place bound positive count second also
+use Rattle.tf_models.proofs.Varying.{varying_first, place-first, varying_below, kept_where, kept_below, kept_agrees, same_place}
 
 module _ (g : Signature) (s : TypedStructure) (stated : Stated) where
-  -- the body is true for all tuples of members before one
+  -- the bounds of the tuples that are tried
+  abbrev pub bounds : List ℕ
+  bounds = tried (length s.sizes) stated.body stated.type_variables
+
+  -- the body is true for all tuples that are tried before one
   abbrev pub AreTrueBefore : List ℕ → Type 0
   AreTrueBefore members =
-      (others : List ℕ) → EachBelow (replicate stated.type_variables (length s.sizes)) others →
-      place (replicate stated.type_variables (length s.sizes)) others
-      < place (replicate stated.type_variables (length s.sizes)) members →
+      (others : List ℕ) → EachBelow bounds others → place bounds others < place bounds members →
       IsTrue (truth (reading g (tables s)) others stated.body [])
 
-  -- how far a search of all tuples has come
+  -- how far a search has come
   pub record IsSearched (members : List ℕ) : Type 0 where
-    pub below : EachBelow (replicate stated.type_variables (length s.sizes)) members
+    pub below : EachBelow bounds members
     pub before : AreTrueBefore members
 
-  -- the body can be evaluated
-  pub searched_typed : (env : Assignment) → env.elements ≡ [] →
-      IsFormula g stated.type_variables [] stated.body → IsSearched env.members →
-      IsTrueOrFalse g s env stated.body
-  searched_typed env none typed searched =
-      let long = EachBelow-length stated.type_variables (length s.sizes) env.members
-      searched.below in
-      record {
-        context = [];
-        typed = subst (λ n. IsFormula g n [] stated.body) long typed;
-        assigned = record {
-          members = subst (λ n. EachBelow (replicate n (length s.sizes)) env.members) long
-              searched.below;
-          elements = subst (λ es. EachBelow [] (reverse es)) (sym none) tt;
-        };
-      }
+  module _ (some : 0 < length s.sizes) where
+    all_below : (members : List ℕ) → EachBelow bounds members →
+        EachBelow (replicate stated.type_variables (length s.sizes)) members
+    all_below members below =
+        varying_below (length s.sizes) stated.type_variables (λ i. occurs_in i stated.body) members
+        some below
 
-  pub truth_is : (env : Assignment) (held : Bool) → env.elements ≡ [] → held
-      ≡ true_in g s env stated.body →
+    -- the body can be evaluated
+    pub searched_typed : (env : Assignment) → env.elements ≡ [] →
+        IsFormula g stated.type_variables [] stated.body → IsSearched env.members →
+        IsTrueOrFalse g s env stated.body
+    searched_typed env none typed searched =
+        let below = all_below env.members searched.below in
+        let long = EachBelow-length stated.type_variables (length s.sizes) env.members below in
+        record {
+          context = [];
+          typed = subst (λ n. IsFormula g n [] stated.body) long typed;
+          assigned = record {
+            members = subst (λ n. EachBelow (replicate n (length s.sizes)) env.members) long below;
+            elements = subst (λ es. EachBelow [] (reverse es)) (sym none) tt;
+          };
+        }
+
+  pub truth_is : (env : Assignment) (held : Bool) → env.elements ≡ [] →
+      held ≡ true_in g s env stated.body →
       truth (reading g (tables s)) env.members stated.body [] ≡ held
   truth_is env held none is =
       ap (λ es. truth (reading g (tables s)) env.members stated.body (reverse es)) (sym none)
@@ -77,81 +69,79 @@ module _ (g : Signature) (s : TypedStructure) (stated : Stated) where
   module _ (some : 0 < length s.sizes) (members : List ℕ) (searched : IsSearched members) where
     -- before and at it
     through : IsTrue (truth (reading g (tables s)) members stated.body []) → (others : List ℕ) →
-        EachBelow (replicate stated.type_variables (length s.sizes)) others →
-        place (replicate stated.type_variables (length s.sizes)) others
-        < place (replicate stated.type_variables (length s.sizes)) members + 1 →
+        EachBelow bounds others → place bounds others < place bounds members + 1 →
         IsTrue (truth (reading g (tables s)) others stated.body [])
     through holds others below within =
         ⊎_elim
         (λ same.
         subst (λ ms. IsTrue (truth (reading g (tables s)) ms stated.body []))
-        (same_place stated.type_variables (length s.sizes) members others some searched.below below
-        (sym same)) holds)
+        (same_place bounds members others searched.below below (sym same)) holds)
         (λ differs.
-        let other : place (replicate stated.type_variables (length s.sizes)) others
-        ≡ place (replicate stated.type_variables (length s.sizes)) members → ⊥ = differs in
+        let other : place bounds others ≡ place bounds members → ⊥ = differs in
         searched.before others below (omega (arith, within, other)))
-        (cases_eq (place (replicate stated.type_variables (length s.sizes)) others)
-        (place (replicate stated.type_variables (length s.sizes)) members))
+        (cases_eq (place bounds others) (place bounds members))
 
     pub searched_more : (after : List ℕ) →
         IsTrue (truth (reading g (tables s)) members stated.body []) →
-        IsNext (length s.sizes) stated.type_variables members after → IsSearched after
+        IsNext bounds members after → IsSearched after
     searched_more after holds next = record {
       below = next.below;
       before = λ others below within. through holds others below
           (omega (arith, within, next.place_is));
     }
 
+    -- a tuple makes the body as true as the one in which the variables that don't occur have 0
     pub searched_all : IsTrue (truth (reading g (tables s)) members stated.body []) →
-        IsLast (length s.sizes) stated.type_variables members → IsSatisfied (reading g (tables s))
-        stated
+        IsLast bounds members → IsSatisfied (reading g (tables s)) stated
     searched_all holds last others below =
-        through holds others below
-        (omega (
-          arith,
-          last,
-          place_within (replicate stated.type_variables (length s.sizes)) others
-              below,
-        ))
+        let kept : List ℕ = kept_where (λ i. occurs_in i stated.body) others in
+        let inside : EachBelow bounds kept =
+        kept_below (length s.sizes) stated.type_variables (λ i. occurs_in i stated.body) others
+        below in
+        truth-agrees (reading g (tables s)) others kept stated.body []
+        (kept_agrees (λ i. occurs_in i stated.body) others)
+        ∙ through holds kept inside (omega (arith, last, place_within bounds kept inside))
 
     pub not_satisfied : truth (reading g (tables s)) members stated.body [] ≡ false →
         IsSatisfied (reading g (tables s)) stated → ⊥
-    not_satisfied fails satisfied = false≢true (sym fails ∙ satisfied members searched.below)
+    not_satisfied fails satisfied =
+        false≢true (sym fails ∙ satisfied members (all_below some members searched.below))
+
+    -- as many members as type variables
+    long : stated.type_variables ≡ length members
+    long =
+        EachBelow-length stated.type_variables (length s.sizes) members
+        (all_below some members searched.below)
+
+    pub searched_used : (used : ℕ) →
+        IsUsed (λ i. occurs_in i stated.body) stated.type_variables used →
+        IsUsed (λ i. occurs_in i stated.body) (length members) used
+    searched_used used is = subst (λ n. IsUsed (λ i. occurs_in i stated.body) n used) long is
+
+    pub searched_below : EachBelow (tried (length s.sizes) stated.body (length members)) members
+    searched_below =
+        subst (λ n. EachBelow (tried (length s.sizes) stated.body n) members) long searched.below
+
+    pub searched_next : (after : List ℕ) →
+        IsNext (tried (length s.sizes) stated.body (length members)) members after →
+        IsNext bounds members after
+    searched_next after next =
+        subst (λ n. IsNext (tried (length s.sizes) stated.body n) members after) (sym long) next
+
+    pub searched_last : IsLast (tried (length s.sizes) stated.body (length members)) members →
+        IsLast bounds members
+    searched_last last =
+        subst (λ n. IsLast (tried (length s.sizes) stated.body n) members) (sym long) last
+
+    pub searched_smaller : (after : List ℕ) → IsNext bounds members after →
+        tuple_count bounds - place bounds after < tuple_count bounds - place bounds members
+    searched_smaller after next =
+        omega (arith, next.place_is, place_within bounds after next.below)
 
   pub searched_none : 0 < length s.sizes → IsSearched (replicate stated.type_variables 0)
   searched_none some = record {
-    below = first_below stated.type_variables (length s.sizes) some;
+    below =
+        varying_first (length s.sizes) stated.type_variables (λ i. occurs_in i stated.body) some;
     before = λ others below within.
-        absurd (omega (arith, within, place-first stated.type_variables (length s.sizes)));
+        absurd (omega (arith, within, place-first bounds stated.type_variables));
   }
-
-  -- as many members as type variables
-  module _ (members : List ℕ) (searched : IsSearched members) where
-    long : stated.type_variables ≡ length members
-    long = EachBelow-length stated.type_variables (length s.sizes) members searched.below
-
-    pub searched_below : EachBelow (replicate (length members) (length s.sizes)) members
-    searched_below =
-        subst (λ n. EachBelow (replicate n (length s.sizes)) members) long searched.below
-
-    pub searched_next : (after : List ℕ) → IsNext (length s.sizes) (length members) members after →
-        IsNext (length s.sizes) stated.type_variables members after
-    searched_next after next = subst (λ n. IsNext (length s.sizes) n members after) (sym long) next
-
-    pub searched_last : IsLast (length s.sizes) (length members) members →
-        IsLast (length s.sizes) stated.type_variables members
-    searched_last last = subst (λ n. IsLast (length s.sizes) n members) (sym long) last
-
-    pub searched_smaller : (after : List ℕ) → IsNext (length s.sizes) stated.type_variables members
-        after →
-        tuple_count (replicate stated.type_variables (length s.sizes))
-        - place (replicate stated.type_variables (length s.sizes)) after
-        < tuple_count (replicate stated.type_variables (length s.sizes))
-        - place (replicate stated.type_variables (length s.sizes)) members
-    searched_smaller after next =
-        omega (
-          arith,
-          next.place_is,
-          place_within (replicate stated.type_variables (length s.sizes)) after next.below,
-        )

@@ -9,49 +9,16 @@ use Rattle.tf_core.specs.declared.ty.Ty.{Ty}
 use Rattle.tf_core.specs.declared.ty.Ty.TheVariants as type
 use Rattle.tf_core.specs.declared.signature.Constructor.{Constructor}
 use Rattle.tf_core.specs.declared.signature.Signature.{Signature}
-use Rattle.tf_core.specs.Types.{type_value}
-use Rattle.tf_core.specs.Typing.{IsType, type_variable, type_apply, AreTypes, no_types, more_types}
+use Rattle.tf_core.specs.Typing.{IsType, AreTypes, no_types, more_types}
 use Rattle.tf_core.specs.TypedTables.{constructor_entry}
 use Rattle.tf_core.proofs.Types.{type_value-variable, type_value-apply}
+pub use Rattle.tf_core.proofs.Values.{type_value_below, type_values_below}
 use Rattle.tf_models.specs.declared.structure.TypedStructure.{TypedStructure}
 use Rattle.tf_models.specs.Reading.{tables}
 use Rattle.tf_models.specs.Fit.{ConstructorsFit}
 use Rattle.tf_models.specs.Evaluation.{member_in, IsPlaced}
-use Rattle.tf_models.proofs.Placing.{EachBelow-at, placed_within, place-step, place-fits, place-whole, get_or-mapped}
+use Rattle.tf_models.proofs.Placing.{placed_within, place-step, place-fits, place-whole, get_or-mapped}
 use Rattle.tf_models.proofs.Inversion.{application_parts}
-
--- the value of a type is a member, where constructors give members
-module _ (g : Signature) (constructor_at : ℕ → List ℕ → ℕ) (count : ℕ)
-    (give : (c : ℕ) (constructor : Constructor) (members : List ℕ) →
-    slice_get g.constructors c ≡ Some constructor → EachBelow (replicate constructor.arity count)
-    members →
-    constructor_at c members < count)
-  where
-    mutual
-      pub type_value_below : (variables : ℕ) (members : List ℕ) (ty : Ty) → IsType g variables ty →
-          EachBelow (replicate variables count) members → type_value constructor_at members ty
-          < count
-      type_value_below variables members ty (type_variable i within) below =
-          rw (type_value-variable constructor_at members i)
-          (subst (λ n. get_or members i 0 < n) (get_or-replicate variables i count 0 within)
-          (EachBelow-at (replicate variables count) members i below
-          (omega (arith, length-replicate variables count))))
-      type_value_below variables members ty (type_apply c constructor types at long formed) below =
-          rw (type_value-apply constructor_at members c types)
-          (give c constructor (map (type_value constructor_at members) types) at
-          (subst (λ n. EachBelow (replicate n count)
-          (map (type_value constructor_at members) types)) long
-          (type_values_below variables members types formed below)))
-
-      pub type_values_below : (variables : ℕ) (members : List ℕ) (types : List Ty) →
-          AreTypes g variables types → EachBelow (replicate variables count) members →
-          EachBelow (replicate (length types) count) (map (type_value constructor_at members) types)
-      type_values_below variables members types no_types below = tt
-      type_values_below variables members types (more_types ty others formed rest) below = (
-        type_value_below variables members ty formed below,
-        type_values_below variables members
-            others rest below,
-      )
 
 module _ (g : Signature) (s : TypedStructure) (fit : ConstructorsFit g (tables s)) where
   -- a constructor's table

@@ -1,6 +1,6 @@
 -- Words of the evaluator's contracts: values and truth under an environment, the last element being
 -- the nearest binder's.
-use Rattle.std.specs.Prelude.{ℕ, ◌≡◌, ◌<◌, ◌≤◌, Bool, List, ◌∷◌, map, length, replicate, reverse, min, ◌^◌, ◌-◌, slice_get, slice_index, Some}
+use Rattle.std.specs.Prelude.{ℕ, ◌≡◌, ◌<◌, ◌≤◌, Bool, List, ◌∷◌, map, length, replicate, reverse, min, ◌^◌, ◌-◌, slice_get, slice_index, Option, Some, None, false}
 use Rattle.std.specs.List.{list_all, list_any}
 use Rattle.enc_base.specs.Tables.{EachBelow, tuple_count, place}
 use Rattle.tf_core.specs.declared.ty.Ty.{Ty}
@@ -11,6 +11,7 @@ use Rattle.tf_core.specs.declared.signature.Signature.{Signature}
 use Rattle.tf_core.specs.Types.{type_value, instantiate}
 use Rattle.tf_core.specs.Truth.{value, truth}
 use Rattle.tf_core.specs.Typing.{IsType, AreTypes, HasType, HaveTypes, IsFormula, AreFormulas, IsSymbol, IsSignature}
+use Rattle.tf_core.specs.Occurrences.{occurs_in_type, occurs_in_types}
 use Rattle.tf_core.specs.TypedTables.{constructor_entry, reading, IsWellFormed}
 use Rattle.tf_models.specs.declared.structure.TypedStructure.{TypedStructure}
 use Rattle.tf_models.specs.declared.members.Members.{Members}
@@ -94,6 +95,16 @@ pub record IsBlock (g : Signature) (s : TypedStructure) (symbol : Symbol) (numbe
   pub typed : IsSymbol g symbol
   pub within : number < block_count (tables s) symbol
 
+-- no type variable occurs in a result's type
+abbrev pub IsClosedResult : Option Ty → Type 0
+IsClosedResult None = Unit {0}
+IsClosedResult (Some ty) = (i : ℕ) → occurs_in_type i ty ≡ false
+
+-- none occurs in a symbol's types, so that its blocks are equally long and have one bound
+pub record HasEvenBlocks (symbol : Symbol) : Type 0 where
+  pub arguments : (i : ℕ) → occurs_in_types i symbol.arguments ≡ false
+  pub result : IsClosedResult symbol.result
+
 -- some entries begin with such a block, each entry of which is in its range
 pub record IsBlockOf (s : TypedStructure) (symbol : Symbol) (number : ℕ) (entries : List ℕ) :
     Type 0 where
@@ -116,6 +127,12 @@ pub record AreTerms (g : Signature) (s : TypedStructure) (env : Assignment) (ter
   pub types : List Ty
   pub typed : HaveTypes g (length env.members) context terms types
   pub assigned : IsAssignment g s env context
+
+-- a value is an element of the member of each type that a term has, in whichever context
+abbrev pub IsElement : Signature → TypedStructure → Assignment → Term → ℕ → Type 0
+IsElement g s env t value =
+    (context : List Ty) (ty : Ty) → IsAssignment g s env context →
+    HasType g (length env.members) context t ty → value < size_in s env.members ty
 
 -- the f-th symbol has a type for each of its parameters, and terms of its argument types
 pub record IsApplication (g : Signature) (s : TypedStructure) (env : Assignment) (f : ℕ)

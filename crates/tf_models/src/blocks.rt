@@ -6,6 +6,7 @@ ghost use Rattle.tf_models.specs.Evaluation.{in_64_bits, IsBlock};
 ghost use Rattle.tf_core.specs.Typing.{IsSymbol};
 
 use crate::members::Members;
+use crate::occurring::are_closed;
 use crate::structure::TypedStructure;
 use tf_core::{Signature, Symbol};
 
@@ -32,7 +33,8 @@ impl TypedStructure {
         length
     }
 
-    /// Where a block begins in a symbol's table: behind the blocks of all earlier tuples.
+    /// Where a block begins in a symbol's table: behind the blocks of all earlier tuples. Where no
+    /// argument type has a variable they are equally long, and aren't gone through.
     pub(crate) fn block_start(
         &self,
         signature: &Signature,
@@ -44,6 +46,12 @@ impl TypedStructure {
         requires entries { sum_below number (length_at (tables self.now) symbol.now) ≤ length table.now }
         ensures exact { result ≡ sum_below number (length_at (tables self.now) symbol.now) }
     {
+        if number == 0 {
+            return 0;
+        }
+        if are_closed(symbol.arguments.as_slice()) {
+            return number * self.block_length(signature, symbol, number as u64) as usize;
+        }
         let mut start = 0usize;
         for earlier in 0..number {
             start += self.block_length(signature, symbol, earlier as u64) as usize;

@@ -1,11 +1,15 @@
 ghost use Rattle.std.specs.Prelude.{◌≡◌, ◌<◌, ◌≤◌, ◌+◌, ◌-◌, [], ◌∷◌, ◌++◌, length, take, slice_index, vec_len, replicate, true, false, IfOk};
 ghost use Rattle.enc_base.specs.Tables.{EachBelow};
+ghost use Rattle.tf_core.specs.Occurrences.{occurs_in};
 ghost use Rattle.tf_models.specs.TupleNumbers.{IsNext, IsLast};
+ghost use Rattle.tf_models.specs.Search.{tried, AreTried, AreTriedNext, AreTriedLast, AreUsed};
 ghost use Rattle.tf_models.specs.Assignment.{Assignment};
 
+use crate::occurring::formula_has;
 use enc_base::NoMemory;
 use std::alloc::Global;
 use std::marker::Model;
+use tf_core::Formula;
 
 /// The members of the type variables and the elements of the term variables in scope, each with
 /// room for a number of them that is fixed at the start.
@@ -73,15 +77,17 @@ impl Env {
         self.types = count as usize;
     }
 
-    /// Replaces the members, which are below a bound, by the next tuple of such numbers. Says
-    /// whether there is one.
-    pub(crate) fn next_types(&mut self, bound: u32) -> bool
-        requires below { EachBelow (replicate (length self.old.members) bound) self.old.members }
-        ensures next { result ≡ true → IsNext bound (length self.old.members) self.old.members self.new.members }
-        ensures last { result ≡ false → IsLast bound (length self.old.members) self.old.members }
+    /// Replaces the members, which are below a bound, by the next tuple of such numbers in which
+    /// only the members of those type variables vary that occur in a formula: `used` of them at
+    /// most, the first ones. Says whether there is one.
+    pub(crate) fn next_types(&mut self, bound: u32, formula: &Formula, used: u32) -> bool
+        requires used { AreUsed formula.now (length self.old.members) used }
+        requires below { AreTried bound formula.now self.old.members }
+        ensures next { result ≡ true → AreTriedNext bound formula.now self.old.members self.new.members }
+        ensures last { result ≡ false → AreTriedLast bound formula.now self.old.members }
         ensures kept { self.new ≡ record self.old { members = self.new.members } }
     {
-        next_tuple(&mut self.members, self.types, bound)
+        next_tuple(&mut self.members, self.types, bound, formula, used)
     }
 
     /// Appends an element, for one more variable.
@@ -139,20 +145,32 @@ fn clear(slots: &mut Vec<u32>, count: usize)
     }
 }
 
-// replaces the first slots by the next tuple of numbers below a bound, and says whether there is one
-fn next_tuple(slots: &mut Vec<u32>, count: usize, bound: u32) -> bool
+// replaces the first slots by the next tuple of numbers below a bound in which only those parts vary
+// whose type variables occur in a formula, and says whether there is one
+fn next_tuple(slots: &mut Vec<u32>, count: usize, bound: u32, formula: &Formula, used: u32) -> bool
     requires room { count ≤ vec_len slots.old }
-    requires below { EachBelow (replicate count bound) (take count slots.old.items) }
-    ensures next { result ≡ true → IsNext bound count (take count slots.old.items) (take count slots.new.items) }
-    ensures last { result ≡ false → IsLast bound count (take count slots.old.items) }
+    requires used { AreUsed formula.now count used }
+    requires below { EachBelow (tried bound formula.now count) (take count slots.old.items) }
+    ensures next { result ≡ true → IsNext (tried bound formula.now count) (take count slots.old.items) (take count slots.new.items) }
+    ensures last { result ≡ false → IsLast (tried bound formula.now count) (take count slots.old.items) }
     ensures kept { vec_len slots.new ≡ vec_len slots.old }
 {
-    for i in (0..count).rev() {
-        if slots[i] + 1 < bound {
-            slots[i] += 1;
+    for i in (0..used).rev() {
+        let slot = i as usize;
+        if slots[slot] + 1 < bound && varies(formula, i, used) {
+            slots[slot] += 1;
             return true;
         }
-        slots[i] = 0;
+        slots[slot] = 0;
     }
     false
+}
+
+// whether a type variable occurs in a formula, of which the last that does is known
+fn varies(formula: &Formula, i: u32, used: u32) -> bool
+    requires last { 0 < used → occurs_in (used - 1) formula.now ≡ true }
+    requires within { i < used }
+    ensures exact { result ≡ occurs_in i formula.now }
+{
+    i + 1 == used || formula_has(formula, i)
 }

@@ -8,6 +8,7 @@ ghost use Rattle.tf_models.specs.Evaluation.{IsReady};
 ghost use Rattle.tf_models.specs.FirstFalse.{IsAsStated, IsFirstFalse};
 
 use crate::env::Env;
+use crate::occurring::used_types;
 use crate::structure::TypedStructure;
 use tf_core::{Problem, Role, Signature, Stated};
 
@@ -54,8 +55,8 @@ impl TypedStructure {
         }
     }
 
-    // whether a formula is true for all members of its type variables; the environment's members
-    // are some tuple of them behind it
+    // whether a formula is true for all members of its type variables; those that don't occur have
+    // the first one. The environment's members are some tuple of them behind it
     fn satisfies(&self, signature: &Signature, stated: &Stated, env: &mut Env) -> bool
         requires ready { IsReady signature.now self.now }
         requires typed { IsFormula signature.now stated.now.type_variables [] stated.now.body }
@@ -66,9 +67,10 @@ impl TypedStructure {
         ensures kept { env.new ≡ record env.old { members = env.new.members } }
     {
         let count = self.sizes.as_slice().len() as u32;
+        let used = used_types(&stated.body, stated.type_variables);
         env.first_types(stated.type_variables);
         while self.holds(signature, &stated.body, env) {
-            if !env.next_types(count) {
+            if !env.next_types(count, &stated.body, used) {
                 return true;
             }
         }

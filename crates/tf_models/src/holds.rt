@@ -9,7 +9,8 @@ use crate::structure::TypedStructure;
 use tf_core::{Formula, Signature, Ty};
 
 impl TypedStructure {
-    /// Whether a formula is true under the environment, which stays as it was. It takes no memory.
+    /// Whether a formula is true under the environment, which stays as it was. It takes no memory,
+    /// and looks at a connective's second part only where the first leaves it open.
     #[cycle(holds)]
     pub fn holds(&self, signature: &Signature, formula: &Formula, env: &mut Env) -> bool
         requires ready { IsReady signature.now self.now }
@@ -32,15 +33,17 @@ impl TypedStructure {
             Formula::Not(a) => !self.holds(signature, a.get(), env),
             Formula::And(parts) => self.all_hold(signature, parts.as_slice(), env),
             Formula::Or(parts) => self.some_holds(signature, parts.as_slice(), env),
-            Formula::Implies(a, b) => {
-                let premise = self.holds(signature, a.get(), env);
-                let conclusion = self.holds(signature, b.get(), env);
-                !premise | conclusion
+            Formula::Implies(premise, conclusion) => {
+                if !self.holds(signature, premise.get(), env) {
+                    return true;
+                }
+                self.holds(signature, conclusion.get(), env)
             }
             Formula::If(a, b) => {
-                let conclusion = self.holds(signature, a.get(), env);
-                let premise = self.holds(signature, b.get(), env);
-                !premise | conclusion
+                if self.holds(signature, a.get(), env) {
+                    return true;
+                }
+                !self.holds(signature, b.get(), env)
             }
             Formula::Iff(a, b) => {
                 let first = self.holds(signature, a.get(), env);
@@ -53,14 +56,16 @@ impl TypedStructure {
                 first != second
             }
             Formula::Nand(a, b) => {
-                let first = self.holds(signature, a.get(), env);
-                let second = self.holds(signature, b.get(), env);
-                !(first & second)
+                if !self.holds(signature, a.get(), env) {
+                    return true;
+                }
+                !self.holds(signature, b.get(), env)
             }
             Formula::Nor(a, b) => {
-                let first = self.holds(signature, a.get(), env);
-                let second = self.holds(signature, b.get(), env);
-                !(first | second)
+                if self.holds(signature, a.get(), env) {
+                    return false;
+                }
+                !self.holds(signature, b.get(), env)
             }
             Formula::ForAll(ty, body) => self.holds_of_each(signature, body.get(), ty, env),
             Formula::Exists(ty, body) => self.holds_of_some(signature, body.get(), ty, env),

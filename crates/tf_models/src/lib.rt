@@ -6,9 +6,8 @@ mod env;
 mod first_false;
 mod holds;
 mod members;
+mod occurring;
 mod structure;
-#[cfg(test)]
-mod tests;
 mod types;
 mod value;
 mod well_formed;

@@ -2,7 +2,7 @@ ghost use Rattle.std.specs.Prelude.{◌≡◌, ◌≤◌, map, length};
 ghost use Rattle.enc_base.specs.Tables.{EachBelow, tuple_count};
 ghost use Rattle.tf_models.specs.Reading.{tables};
 ghost use Rattle.tf_models.specs.Fit.{bounds_at};
-ghost use Rattle.tf_models.specs.Evaluation.{value_in, entry_in, IsReady, IsBlock, IsTerm, AreTerms, IsApplied, IsPlaced};
+ghost use Rattle.tf_models.specs.Evaluation.{value_in, entry_in, IsReady, IsBlock, IsTerm, AreTerms, IsElement, IsApplied, IsPlaced};
 
 use crate::env::Env;
 use crate::members::Members;
@@ -16,6 +16,7 @@ impl TypedStructure {
         requires ready { IsReady signature.now self.now }
         requires term { IsTerm signature.now self.now env.now term.now }
         ensures exact { result ≡ value_in signature.now self.now env.now term.now }
+        ensures element { IsElement signature.now self.now env.now term.now result }
     {
         match term {
             Term::Var(i) => env.element(*i),

@@ -3,10 +3,11 @@ ghost use Rattle.enc_base.specs.Tables.{tuple_count, sum_below};
 ghost use Rattle.tf_core.specs.Typing.{IsSymbol, IsSignature};
 ghost use Rattle.tf_core.specs.TypedTables.{IsWellFormed};
 ghost use Rattle.tf_models.specs.Reading.{tables};
-ghost use Rattle.tf_models.specs.Fit.{IsInhabited, IsTable, ConstructorsFit, IsSymbolTable, TablesFit, length_at, bound_at, parameters_at};
-ghost use Rattle.tf_models.specs.Evaluation.{IsBlock, IsBlockOf};
+ghost use Rattle.tf_models.specs.Fit.{IsInhabited, IsTable, ConstructorsFit, IsSymbolTable, TablesFit, block_count, length_at, bound_at, parameters_at};
+ghost use Rattle.tf_models.specs.Evaluation.{IsBlock, IsBlockOf, HasEvenBlocks};
 
 use crate::members::Members;
+use crate::occurring::{are_closed, is_closed};
 use crate::structure::TypedStructure;
 use tf_core::{Signature, Symbol};
 
@@ -61,7 +62,7 @@ impl TypedStructure {
         true
     }
 
-    // whether a table is one of a symbol's
+    // whether a table is one of a symbol's; blocks that are alike are looked at together
     fn is_symbol_table(&self, signature: &Signature, symbol: &Symbol, table: &[u32]) -> bool
         requires few { length self.now.sizes < 2 ^ 32 }
         requires typed { IsSymbol signature.now symbol.now }
@@ -72,6 +73,9 @@ impl TypedStructure {
         let Some(blocks) = count_tuples(count, symbol.parameters, table.len()) else {
             return false;
         };
+        if has_even_blocks(symbol) {
+            return self.is_even_table(signature, symbol, table, blocks);
+        }
         let mut start = 0usize;
         for number in 0..blocks {
             match self.block_of(signature, symbol, number as u64, &table[start..]) {
@@ -80,6 +84,28 @@ impl TypedStructure {
             }
         }
         start == table.len()
+    }
+
+    // whether a table is one of a symbol's whose blocks are equally long and have one bound
+    fn is_even_table(
+        &self,
+        signature: &Signature,
+        symbol: &Symbol,
+        table: &[u32],
+        blocks: usize,
+    ) -> bool
+        requires few { length self.now.sizes < 2 ^ 32 }
+        requires typed { IsSymbol signature.now symbol.now }
+        requires constructors { ConstructorsFit signature.now (tables self.now) }
+        requires even { HasEvenBlocks symbol.now }
+        requires blocks { blocks ≡ block_count (tables self.now) symbol.now }
+        ensures exact { IsTrue result ↔ IsSymbolTable (tables self.now) symbol.now table.now }
+    {
+        let length = self.block_length(signature, symbol, 0);
+        if length.saturating_mul(blocks as u64) != table.len() as u64 {
+            return false;
+        }
+        are_below(table, self.block_bound(signature, symbol, 0))
     }
 
     // the length of a block of a symbol's table, if some entries begin with such a block
@@ -108,8 +134,9 @@ impl TypedStructure {
         }
     }
 
-    // the bound of the entries of a block
-    fn block_bound(&self, signature: &Signature, symbol: &Symbol, number: u64) -> u32
+    /// The bound of the entries of a block: the size of the member that the result type is, or 2 for
+    /// a predicate.
+    pub fn block_bound(&self, signature: &Signature, symbol: &Symbol, number: u64) -> u32
         requires block { IsBlock signature.now self.now symbol.now number }
         ensures { result ≡ bound_at (tables self.now) symbol.now.result (parameters_at (tables self.now) symbol.now number) }
     {
@@ -124,6 +151,16 @@ impl TypedStructure {
                 )
             }
         }
+    }
+}
+
+// whether no type of a symbol's has a variable, so that all its blocks are alike
+fn has_even_blocks(symbol: &Symbol) -> bool
+    ensures exact { IsTrue result → HasEvenBlocks symbol.now }
+{
+    match &symbol.result {
+        None => are_closed(symbol.arguments.as_slice()),
+        Some(ty) => is_closed(ty) && are_closed(symbol.arguments.as_slice()),
     }
 }
 

@@ -12,7 +12,12 @@ pub enum NormalError {
 }
 
 impl From<NoMemory> for NormalError {
-    fn from(_: NoMemory) -> Self {
+    ghost use Rattle.std.specs.Prelude.{◌≡◌};
+    ghost use Rattle.tf_nnf.specs.declared.error.NormalError.TheVariants.{Memory};
+
+    ghost from_gives = { λ _ e. e ≡ Memory };
+
+    fn from(_: NoMemory) -> NormalError {
         NormalError::Memory
     }
 }

@@ -17,6 +17,3 @@ pub use laws::{
     positive_form_keeps_truth, reduct_is_model,
 };
 pub use normal::normalise;
-
-#[cfg(test)]
-mod tests;

@@ -38,10 +38,8 @@ pub fn normalise(alloc: Global, problem: &Problem) -> Result<Normal, NormalError
     if nodes > MOST_NODES {
         return Err(NormalError::TooLarge { nodes });
     }
-    match made(alloc, problem) {
-        Ok(normal) => Ok(normal),
-        Err(NoMemory) => Err(NormalError::Memory),
-    }
+    let normal = made(alloc, problem)?;
+    Ok(normal)
 }
 
 // the normal problem, of any size

@@ -1,16 +1,16 @@
 use Rattle.std.proofs.Common.{rules, map, ap, ◌∙◌}
 use Rattle.tf_core.specs.declared.term.Term.TheViews.{the_lemmas}
 use Rattle.tf_core.specs.Substitution.{shift}
-use Rattle.tf_core.proofs.Built.{shift_variable, shift_apply, variable_below, arguments_below}
+use Rattle.tf_core.proofs.Built.{shift_variable, shift_apply, raised_below, arguments_below}
 use Rattle.tf_core.proofs.term.+shift.Goals as goal
 
 pub Term::shift-raise-requires : goal.Term::shift-raise-requires
-Term::shift-raise-requires t c = variable_below _ _ _ c.in-Var.is c.requires.bound
+Term::shift-raise-requires t c = raised_below _ _ _ _ _ c.in-Var.is c.requires.sums
 
 pub Term::shift-shifted-requires : goal.Term::shift-shifted-requires
 Term::shift-shifted-requires t c = (
   search (rules, the_lemmas),
-  rw c.as_slice-in-Apply.ensures (arguments_below _ _ _ _ _ c.in-Apply.is c.requires.bound),
+  rw c.as_slice-in-Apply.ensures (arguments_below _ _ _ _ _ _ _ c.in-Apply.is c.requires.sums),
 )
 
 pub Term::shift-returns-in-Var : goal.Term::shift-returns-in-Var

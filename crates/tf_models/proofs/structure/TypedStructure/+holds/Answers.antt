@@ -3,7 +3,7 @@ use Rattle.std.proofs.lemmas.List.{length-append}
 use Rattle.tf_core.specs.declared.formula.Formula.TheViews.{the_lemmas}
 use Rattle.tf_core.specs.Counts.{depth}
 use Rattle.tf_models.proofs.Entries.{constructors_fit}
-use Rattle.tf_models.proofs.FormulaParts.{not_typed, and_typed, or_typed, implies_typed, if_typed, iff_typed, xor_typed, nand_typed, nor_typed, for_all_typed, exists_typed, not_depth, and_depth, or_depth, implies_depth, if_depth, iff_depth, xor_depth, nand_depth, nor_depth, for_all_depth, exists_depth, true_is, false_is, atom_is, equal_is, not_is, and_is, or_is, for_all_is, exists_is, implies_is, if_is, iff_is, xor_is, nand_is, nor_is, formula_at, at_most_greatest, beq-iff, body_typed, each_fails, some_holds_of}
+use Rattle.tf_models.proofs.FormulaParts.{not_typed, and_typed, or_typed, implies_typed, if_typed, iff_typed, xor_typed, nand_typed, nor_typed, for_all_typed, exists_typed, not_depth, and_depth, or_depth, implies_depth, if_depth, iff_depth, xor_depth, nand_depth, nor_depth, for_all_depth, exists_depth, true_is, false_is, atom_is, equal_is, not_is, and_is, or_is, for_all_is, exists_is, implies_decided, implies_open, if_decided, if_open, iff_is, xor_is, nand_decided, nand_open, nor_decided, nor_open, formula_at, at_most_greatest, beq-iff, body_typed, each_fails, some_holds_of}
 use Rattle.tf_models.proofs.structure.TypedStructure.+holds.Goals as goal
 
 pub all_hold-holds-requires : goal.all_hold-holds-requires
@@ -94,81 +94,6 @@ holds-some_holds-requires t c = (
   ),
 )
 
-pub holds-holds-premise-requires : goal.holds-holds-premise-requires
-holds-holds-premise-requires t c = (
-  search (rules, the_lemmas),
-  (
-    c.requires.ready,
-    (
-      rw c.get-in-Implies.ensures
-          ((implies_typed c.args.signature.now c.args.self.now c.args.env.now c.args.formula.now
-          c.requires.formula c.in-Implies.a c.in-Implies.b c.in-Implies.is).0),
-      rw c.get-in-Implies.ensures
-          (omega (
-            arith,
-            c.requires.room,
-            implies_depth c.args.formula.now c.in-Implies.a
-                c.in-Implies.b c.in-Implies.is,
-          )),
-    ),
-  ),
-)
-
-pub holds-holds-conclusion-requires : goal.holds-holds-conclusion-requires
-holds-holds-conclusion-requires t c = (
-  search (rules, the_lemmas),
-  (
-    c.requires.ready,
-    (
-      rw (c.get-in-Implies-2.ensures, c.holds-premise.ensures.kept)
-          (implies_typed c.args.signature.now c.args.self.now c.args.env.now c.args.formula.now
-          c.requires.formula c.in-Implies.a c.in-Implies.b c.in-Implies.is).1,
-      rw (c.get-in-Implies-2.ensures, c.holds-premise.ensures.kept)
-          (omega (
-            arith,
-            c.requires.room,
-            implies_depth c.args.formula.now c.in-Implies.a
-                c.in-Implies.b c.in-Implies.is,
-          )),
-    ),
-  ),
-)
-
-pub holds-holds-conclusion-requires-in-If : goal.holds-holds-conclusion-requires-in-If
-holds-holds-conclusion-requires-in-If t c = (
-  search (rules, the_lemmas),
-  (
-    c.requires.ready,
-    (
-      rw c.get-in-If.ensures
-          ((if_typed c.args.signature.now c.args.self.now c.args.env.now c.args.formula.now
-          c.requires.formula c.in-If.a c.in-If.b c.in-If.is).0),
-      rw c.get-in-If.ensures
-          (omega (arith, c.requires.room, if_depth c.args.formula.now c.in-If.a c.in-If.b c.in-If.is)),
-    ),
-  ),
-)
-
-pub holds-holds-premise-requires-in-If : goal.holds-holds-premise-requires-in-If
-holds-holds-premise-requires-in-If t c = (
-  search (rules, the_lemmas),
-  (
-    c.requires.ready,
-    (
-      rw (c.get-in-If-2.ensures, c.holds-conclusion-in-If.ensures.kept)
-          (if_typed c.args.signature.now c.args.self.now c.args.env.now c.args.formula.now
-          c.requires.formula c.in-If.a c.in-If.b c.in-If.is).1,
-      rw (c.get-in-If-2.ensures, c.holds-conclusion-in-If.ensures.kept)
-          (omega (
-            arith,
-            c.requires.room,
-            if_depth c.args.formula.now c.in-If.a c.in-If.b
-                c.in-If.is,
-          )),
-    ),
-  ),
-)
-
 pub holds-holds-first-requires : goal.holds-holds-first-requires
 holds-holds-first-requires t c = (
   search (rules, the_lemmas),
@@ -249,86 +174,6 @@ holds-holds-second-requires-in-Xor t c = (
   ),
 )
 
-pub holds-holds-first-requires-in-Nand : goal.holds-holds-first-requires-in-Nand
-holds-holds-first-requires-in-Nand t c = (
-  search (rules, the_lemmas),
-  (
-    c.requires.ready,
-    (
-      rw c.get-in-Nand.ensures
-          ((nand_typed c.args.signature.now c.args.self.now c.args.env.now c.args.formula.now
-          c.requires.formula c.in-Nand.a c.in-Nand.b c.in-Nand.is).0),
-      rw c.get-in-Nand.ensures
-          (omega (
-            arith,
-            c.requires.room,
-            nand_depth c.args.formula.now c.in-Nand.a c.in-Nand.b
-                c.in-Nand.is,
-          )),
-    ),
-  ),
-)
-
-pub holds-holds-second-requires-in-Nand : goal.holds-holds-second-requires-in-Nand
-holds-holds-second-requires-in-Nand t c = (
-  search (rules, the_lemmas),
-  (
-    c.requires.ready,
-    (
-      rw (c.get-in-Nand-2.ensures, c.holds-first-in-Nand.ensures.kept)
-          (nand_typed c.args.signature.now c.args.self.now c.args.env.now c.args.formula.now
-          c.requires.formula c.in-Nand.a c.in-Nand.b c.in-Nand.is).1,
-      rw (c.get-in-Nand-2.ensures, c.holds-first-in-Nand.ensures.kept)
-          (omega (
-            arith,
-            c.requires.room,
-            nand_depth c.args.formula.now c.in-Nand.a c.in-Nand.b
-                c.in-Nand.is,
-          )),
-    ),
-  ),
-)
-
-pub holds-holds-first-requires-in-Nor : goal.holds-holds-first-requires-in-Nor
-holds-holds-first-requires-in-Nor t c = (
-  search (rules, the_lemmas),
-  (
-    c.requires.ready,
-    (
-      rw c.get-in-Nor.ensures
-          ((nor_typed c.args.signature.now c.args.self.now c.args.env.now c.args.formula.now
-          c.requires.formula c.in-Nor.a c.in-Nor.b c.in-Nor.is).0),
-      rw c.get-in-Nor.ensures
-          (omega (
-            arith,
-            c.requires.room,
-            nor_depth c.args.formula.now c.in-Nor.a c.in-Nor.b
-                c.in-Nor.is,
-          )),
-    ),
-  ),
-)
-
-pub holds-holds-second-requires-in-Nor : goal.holds-holds-second-requires-in-Nor
-holds-holds-second-requires-in-Nor t c = (
-  search (rules, the_lemmas),
-  (
-    c.requires.ready,
-    (
-      rw (c.get-in-Nor-2.ensures, c.holds-first-in-Nor.ensures.kept)
-          (nor_typed c.args.signature.now c.args.self.now c.args.env.now c.args.formula.now
-          c.requires.formula c.in-Nor.a c.in-Nor.b c.in-Nor.is).1,
-      rw (c.get-in-Nor-2.ensures, c.holds-first-in-Nor.ensures.kept)
-          (omega (
-            arith,
-            c.requires.room,
-            nor_depth c.args.formula.now c.in-Nor.a c.in-Nor.b
-                c.in-Nor.is,
-          )),
-    ),
-  ),
-)
-
 pub holds-holds_of_each-requires : goal.holds-holds_of_each-requires
 holds-holds_of_each-requires t c = (
   search (rules, the_lemmas),
@@ -404,22 +249,6 @@ holds-returns-in-Or-clause-exact t c =
     or_is c.args.signature.now c.args.self.now c.args.env.now c.args.formula.now _ c.in-Or.parts
     c.in-Or.is (rw c.as_slice-in-Or.ensures at c.some_holds.ensures.exact)
 
-pub holds-returns-in-Implies-clause-exact : goal.holds-returns-in-Implies-clause-exact
-holds-returns-in-Implies-clause-exact t c =
-    implies_is c.args.signature.now c.args.self.now c.args.env.now c.args.formula.now
-    c.in-Implies.a c.in-Implies.b c.holds-premise.result c.holds-conclusion.result _
-    (rw c.get-in-Implies.ensures at c.holds-premise.ensures.exact)
-    (rw (c.get-in-Implies-2.ensures, c.holds-premise.ensures.kept) at
-    c.holds-conclusion.ensures.exact) c.in-Implies.is refl
-
-pub holds-returns-in-If-clause-exact : goal.holds-returns-in-If-clause-exact
-holds-returns-in-If-clause-exact t c =
-    if_is c.args.signature.now c.args.self.now c.args.env.now c.args.formula.now c.in-If.a c.in-If.b
-    c.holds-conclusion-in-If.result c.holds-premise-in-If.result _
-    (rw c.get-in-If.ensures at c.holds-conclusion-in-If.ensures.exact)
-    (rw (c.get-in-If-2.ensures, c.holds-conclusion-in-If.ensures.kept) at
-    c.holds-premise-in-If.ensures.exact) c.in-If.is refl
-
 pub holds-returns-in-Iff-clause-exact : goal.holds-returns-in-Iff-clause-exact
 holds-returns-in-Iff-clause-exact t c =
     iff_is c.args.signature.now c.args.self.now c.args.env.now c.args.formula.now c.in-Iff.a
@@ -435,22 +264,6 @@ holds-returns-in-Xor-clause-exact t c =
     (rw c.get-in-Xor.ensures at c.holds-first-in-Xor.ensures.exact)
     (rw (c.get-in-Xor-2.ensures, c.holds-first-in-Xor.ensures.kept) at
     c.holds-second-in-Xor.ensures.exact) c.in-Xor.is (ap not (beq-iff _ _))
-
-pub holds-returns-in-Nand-clause-exact : goal.holds-returns-in-Nand-clause-exact
-holds-returns-in-Nand-clause-exact t c =
-    nand_is c.args.signature.now c.args.self.now c.args.env.now c.args.formula.now c.in-Nand.a
-    c.in-Nand.b c.holds-first-in-Nand.result c.holds-second-in-Nand.result _
-    (rw c.get-in-Nand.ensures at c.holds-first-in-Nand.ensures.exact)
-    (rw (c.get-in-Nand-2.ensures, c.holds-first-in-Nand.ensures.kept) at
-    c.holds-second-in-Nand.ensures.exact) c.in-Nand.is refl
-
-pub holds-returns-in-Nor-clause-exact : goal.holds-returns-in-Nor-clause-exact
-holds-returns-in-Nor-clause-exact t c =
-    nor_is c.args.signature.now c.args.self.now c.args.env.now c.args.formula.now c.in-Nor.a
-    c.in-Nor.b c.holds-first-in-Nor.result c.holds-second-in-Nor.result _
-    (rw c.get-in-Nor.ensures at c.holds-first-in-Nor.ensures.exact)
-    (rw (c.get-in-Nor-2.ensures, c.holds-first-in-Nor.ensures.kept) at
-    c.holds-second-in-Nor.ensures.exact) c.in-Nor.is refl
 
 pub holds-returns-in-ForAll-clause-exact : goal.holds-returns-in-ForAll-clause-exact
 holds-returns-in-ForAll-clause-exact t c =
@@ -501,3 +314,183 @@ holds_with-holds-held-requires t c = (
     ),
   ),
 )
+
+pub holds-holds-requires-in-Implies : goal.holds-holds-requires-in-Implies
+holds-holds-requires-in-Implies t c = (
+  search (rules, the_lemmas),
+  (
+    c.requires.ready,
+    (
+      rw c.get-in-Implies.ensures
+          ((implies_typed c.args.signature.now c.args.self.now c.args.env.now c.args.formula.now
+          c.requires.formula c.in-Implies.premise c.in-Implies.conclusion c.in-Implies.is).0),
+      rw c.get-in-Implies.ensures
+          (omega (arith, c.requires.room, implies_depth c.args.formula.now c.in-Implies.premise c.in-Implies.conclusion c.in-Implies.is)),
+    ),
+  ),
+)
+
+pub holds-holds-requires-in-Implies-2 : goal.holds-holds-requires-in-Implies-2
+holds-holds-requires-in-Implies-2 t c = (
+  search (rules, the_lemmas),
+  (
+    c.requires.ready,
+    (
+      rw (c.get-in-Implies-2.ensures, c.holds-in-Implies.ensures.kept)
+          (implies_typed c.args.signature.now c.args.self.now c.args.env.now c.args.formula.now
+          c.requires.formula c.in-Implies.premise c.in-Implies.conclusion c.in-Implies.is).1,
+      rw (c.get-in-Implies-2.ensures, c.holds-in-Implies.ensures.kept)
+          (omega (arith, c.requires.room, implies_depth c.args.formula.now c.in-Implies.premise c.in-Implies.conclusion c.in-Implies.is)),
+    ),
+  ),
+)
+
+pub holds-holds-requires-in-If : goal.holds-holds-requires-in-If
+holds-holds-requires-in-If t c = (
+  search (rules, the_lemmas),
+  (
+    c.requires.ready,
+    (
+      rw c.get-in-If.ensures
+          ((if_typed c.args.signature.now c.args.self.now c.args.env.now c.args.formula.now
+          c.requires.formula c.in-If.a c.in-If.b c.in-If.is).0),
+      rw c.get-in-If.ensures
+          (omega (arith, c.requires.room, if_depth c.args.formula.now c.in-If.a c.in-If.b c.in-If.is)),
+    ),
+  ),
+)
+
+pub holds-holds-requires-in-If-2 : goal.holds-holds-requires-in-If-2
+holds-holds-requires-in-If-2 t c = (
+  search (rules, the_lemmas),
+  (
+    c.requires.ready,
+    (
+      rw (c.get-in-If-2.ensures, c.holds-in-If.ensures.kept)
+          (if_typed c.args.signature.now c.args.self.now c.args.env.now c.args.formula.now
+          c.requires.formula c.in-If.a c.in-If.b c.in-If.is).1,
+      rw (c.get-in-If-2.ensures, c.holds-in-If.ensures.kept)
+          (omega (arith, c.requires.room, if_depth c.args.formula.now c.in-If.a c.in-If.b c.in-If.is)),
+    ),
+  ),
+)
+
+pub holds-holds-requires-in-Nand : goal.holds-holds-requires-in-Nand
+holds-holds-requires-in-Nand t c = (
+  search (rules, the_lemmas),
+  (
+    c.requires.ready,
+    (
+      rw c.get-in-Nand.ensures
+          ((nand_typed c.args.signature.now c.args.self.now c.args.env.now c.args.formula.now
+          c.requires.formula c.in-Nand.a c.in-Nand.b c.in-Nand.is).0),
+      rw c.get-in-Nand.ensures
+          (omega (arith, c.requires.room, nand_depth c.args.formula.now c.in-Nand.a c.in-Nand.b c.in-Nand.is)),
+    ),
+  ),
+)
+
+pub holds-holds-requires-in-Nand-2 : goal.holds-holds-requires-in-Nand-2
+holds-holds-requires-in-Nand-2 t c = (
+  search (rules, the_lemmas),
+  (
+    c.requires.ready,
+    (
+      rw (c.get-in-Nand-2.ensures, c.holds-in-Nand.ensures.kept)
+          (nand_typed c.args.signature.now c.args.self.now c.args.env.now c.args.formula.now
+          c.requires.formula c.in-Nand.a c.in-Nand.b c.in-Nand.is).1,
+      rw (c.get-in-Nand-2.ensures, c.holds-in-Nand.ensures.kept)
+          (omega (arith, c.requires.room, nand_depth c.args.formula.now c.in-Nand.a c.in-Nand.b c.in-Nand.is)),
+    ),
+  ),
+)
+
+pub holds-holds-requires-in-Nor : goal.holds-holds-requires-in-Nor
+holds-holds-requires-in-Nor t c = (
+  search (rules, the_lemmas),
+  (
+    c.requires.ready,
+    (
+      rw c.get-in-Nor.ensures
+          ((nor_typed c.args.signature.now c.args.self.now c.args.env.now c.args.formula.now
+          c.requires.formula c.in-Nor.a c.in-Nor.b c.in-Nor.is).0),
+      rw c.get-in-Nor.ensures
+          (omega (arith, c.requires.room, nor_depth c.args.formula.now c.in-Nor.a c.in-Nor.b c.in-Nor.is)),
+    ),
+  ),
+)
+
+pub holds-holds-requires-in-Nor-2 : goal.holds-holds-requires-in-Nor-2
+holds-holds-requires-in-Nor-2 t c = (
+  search (rules, the_lemmas),
+  (
+    c.requires.ready,
+    (
+      rw (c.get-in-Nor-2.ensures, c.holds-in-Nor.ensures.kept)
+          (nor_typed c.args.signature.now c.args.self.now c.args.env.now c.args.formula.now
+          c.requires.formula c.in-Nor.a c.in-Nor.b c.in-Nor.is).1,
+      rw (c.get-in-Nor-2.ensures, c.holds-in-Nor.ensures.kept)
+          (omega (arith, c.requires.room, nor_depth c.args.formula.now c.in-Nor.a c.in-Nor.b c.in-Nor.is)),
+    ),
+  ),
+)
+
+pub holds-returns-then-not-holds-clause-exact : goal.holds-returns-then-not-holds-clause-exact
+holds-returns-then-not-holds-clause-exact t c =
+    implies_decided c.args.signature.now c.args.self.now c.args.env.now c.args.formula.now
+    c.in-Implies.premise c.in-Implies.conclusion c.holds-in-Implies.result
+    (rw c.get-in-Implies.ensures at c.holds-in-Implies.ensures.exact) c.in-Implies.is c.if-not-holds.true
+
+pub holds-returns-else-not-holds-clause-exact : goal.holds-returns-else-not-holds-clause-exact
+holds-returns-else-not-holds-clause-exact t c =
+    implies_open c.args.signature.now c.args.self.now c.args.env.now c.args.formula.now
+    c.in-Implies.premise c.in-Implies.conclusion c.holds-in-Implies.result
+    (rw c.get-in-Implies.ensures at c.holds-in-Implies.ensures.exact) c.holds-in-Implies-2.result
+    c.in-Implies.is c.if-not-holds.false
+    (rw (c.get-in-Implies-2.ensures, c.holds-in-Implies.ensures.kept) at
+    c.holds-in-Implies-2.ensures.exact)
+
+pub holds-returns-then-holds-clause-exact : goal.holds-returns-then-holds-clause-exact
+holds-returns-then-holds-clause-exact t c =
+    if_decided c.args.signature.now c.args.self.now c.args.env.now c.args.formula.now
+    c.in-If.a c.in-If.b c.holds-in-If.result
+    (rw c.get-in-If.ensures at c.holds-in-If.ensures.exact) c.in-If.is c.if-holds.true
+
+pub holds-returns-else-holds-clause-exact : goal.holds-returns-else-holds-clause-exact
+holds-returns-else-holds-clause-exact t c =
+    if_open c.args.signature.now c.args.self.now c.args.env.now c.args.formula.now
+    c.in-If.a c.in-If.b c.holds-in-If.result
+    (rw c.get-in-If.ensures at c.holds-in-If.ensures.exact) c.holds-in-If-2.result
+    c.in-If.is c.if-holds.false
+    (rw (c.get-in-If-2.ensures, c.holds-in-If.ensures.kept) at
+    c.holds-in-If-2.ensures.exact)
+
+pub holds-returns-then-not-holds-2-clause-exact : goal.holds-returns-then-not-holds-2-clause-exact
+holds-returns-then-not-holds-2-clause-exact t c =
+    nand_decided c.args.signature.now c.args.self.now c.args.env.now c.args.formula.now
+    c.in-Nand.a c.in-Nand.b c.holds-in-Nand.result
+    (rw c.get-in-Nand.ensures at c.holds-in-Nand.ensures.exact) c.in-Nand.is c.if-not-holds-2.true
+
+pub holds-returns-else-not-holds-2-clause-exact : goal.holds-returns-else-not-holds-2-clause-exact
+holds-returns-else-not-holds-2-clause-exact t c =
+    nand_open c.args.signature.now c.args.self.now c.args.env.now c.args.formula.now
+    c.in-Nand.a c.in-Nand.b c.holds-in-Nand.result
+    (rw c.get-in-Nand.ensures at c.holds-in-Nand.ensures.exact) c.holds-in-Nand-2.result
+    c.in-Nand.is c.if-not-holds-2.false
+    (rw (c.get-in-Nand-2.ensures, c.holds-in-Nand.ensures.kept) at
+    c.holds-in-Nand-2.ensures.exact)
+
+pub holds-returns-then-holds-2-clause-exact : goal.holds-returns-then-holds-2-clause-exact
+holds-returns-then-holds-2-clause-exact t c =
+    nor_decided c.args.signature.now c.args.self.now c.args.env.now c.args.formula.now
+    c.in-Nor.a c.in-Nor.b c.holds-in-Nor.result
+    (rw c.get-in-Nor.ensures at c.holds-in-Nor.ensures.exact) c.in-Nor.is c.if-holds-2.true
+
+pub holds-returns-else-holds-2-clause-exact : goal.holds-returns-else-holds-2-clause-exact
+holds-returns-else-holds-2-clause-exact t c =
+    nor_open c.args.signature.now c.args.self.now c.args.env.now c.args.formula.now
+    c.in-Nor.a c.in-Nor.b c.holds-in-Nor.result
+    (rw c.get-in-Nor.ensures at c.holds-in-Nor.ensures.exact) c.holds-in-Nor-2.result
+    c.in-Nor.is c.if-holds-2.false
+    (rw (c.get-in-Nor-2.ensures, c.holds-in-Nor.ensures.kept) at
+    c.holds-in-Nor-2.ensures.exact)

@@ -1,6 +1,6 @@
 use Rattle.std.proofs.Common.{rules, ap, length, arith}
 use Rattle.tf_core.specs.declared.term.Term.TheViews.{the_lemmas}
-use Rattle.tf_models.proofs.Entries.{constructors_fit, application_read, parameters_fit, applied_terms, applied_block, start_fits, block_fits, applied_values, entry_within, entry_is}
+use Rattle.tf_models.proofs.Entries.{constructors_fit, application_read, parameters_fit, applied_terms, applied_block, start_fits, block_fits, applied_values, entry_within, entry_is, element_is}
 use Rattle.tf_models.proofs.SymbolBlocks.{block_members, argument_formed}
 use Rattle.tf_models.proofs.TermPlaces.{variable_bound, variable_value, application_value, term_at, as_many, terms-step, terms-fit, terms_placed}
 use Rattle.tf_models.proofs.structure.TypedStructure.+value.Goals as goal
@@ -215,14 +215,22 @@ entry-returns t c =
     }
 
 pub value-returns-in-Var : goal.value-returns-in-Var
-value-returns-in-Var t c = record {
-  exact = variable_value c.args.signature.now c.args.self.now c.args.env.now c.args.term.now
-      c.requires.term c.in-Var.i c.element.result c.in-Var.is c.element.ensures.exact;
-}
+value-returns-in-Var t c =
+    let is = variable_value c.args.signature.now c.args.self.now c.args.env.now c.args.term.now
+    c.requires.term c.in-Var.i c.element.result c.in-Var.is c.element.ensures.exact in
+    record {
+      exact = is;
+      element = element_is c.args.signature.now c.args.self.now c.requires.ready c.args.env.now
+          c.args.term.now c.element.result is;
+    }
 
 pub value-returns-in-Apply : goal.value-returns-in-Apply
-value-returns-in-Apply t c = record {
-  exact = application_value c.args.signature.now c.args.self.now c.args.env.now c.args.term.now
-      c.in-Apply.f c.entry.result c.in-Apply.types c.in-Apply.terms c.in-Apply.is
-      (rw (c.as_slice.ensures, c.as_slice-in-Apply.ensures) at c.entry.ensures.exact);
-}
+value-returns-in-Apply t c =
+    let is = application_value c.args.signature.now c.args.self.now c.args.env.now c.args.term.now
+    c.in-Apply.f c.entry.result c.in-Apply.types c.in-Apply.terms c.in-Apply.is
+    (rw (c.as_slice.ensures, c.as_slice-in-Apply.ensures) at c.entry.ensures.exact) in
+    record {
+      exact = is;
+      element = element_is c.args.signature.now c.args.self.now c.requires.ready c.args.env.now
+          c.args.term.now c.entry.result is;
+    }

@@ -1,5 +1,6 @@
-use Rattle.std.proofs.Common.{◌≡◌, ◌-◌, length, replicate}
+use Rattle.std.proofs.Common.{◌≡◌, ◌-◌, length}
 use Rattle.enc_base.specs.Tables.{tuple_count, place}
+use Rattle.tf_models.specs.Search.{tried}
 use Rattle.tf_models.proofs.Satisfied.{IsSearched}
 use Rattle.tf_models.proofs.structure.TypedStructure.satisfies.Given as goal
 
@@ -11,5 +12,5 @@ invariant-loop-env l = record {
 
 abbrev pub decreases-loop-env : goal.decreases-loop-env
 decreases-loop-env l =
-    tuple_count (replicate l.stated.type_variables (length l.self.sizes))
-    - place (replicate l.stated.type_variables (length l.self.sizes)) l.env.members
+    tuple_count (tried (length l.self.sizes) l.stated.body l.stated.type_variables)
+    - place (tried (length l.self.sizes) l.stated.body l.stated.type_variables) l.env.members
