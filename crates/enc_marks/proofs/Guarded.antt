@@ -13,6 +13,7 @@ use Rattle.tf_naked.specs.Covers.{covers}
 use Rattle.enc_marks.proofs.Uniform.{length-covers}
 use Rattle.enc_marks.specs.Axioms.{premises, own_application, own_variables, closed, under, typing_axiom}
 use Rattle.enc_marks.specs.Writing.{choices_in, numbers_in, signature_in, placed_in, guard_in, guards_of, zipped}
+use Rattle.enc_marks.proofs.Closures.{closed-add}
 use Rattle.enc_marks.proofs.Translation.{type_term-variable}
 
 -- parameters as terms
@@ -86,34 +87,32 @@ module _ (writer : Writer) (depth : ℕ) where
         (premises-guarded tests types (count - 1) (omega (arith, same)))
 
 -- what a typing axiom is made of
-pub record AxiomParts (writer : Writer) (f : ℕ) (symbol : Symbol) (value : Ty) (depth count : ℕ)
-    (guards : List Fof) (term : FofTerm) (conclusion body inner : Fof) : Type 0 where
-  pub count_is : count ≡ length symbol.arguments
+pub record AxiomParts (writer : Writer) (f : ℕ) (symbol : Symbol) (value : Ty) (depth : ℕ)
+    (guards : List Fof) (term : FofTerm) (conclusion : Fof) : Type 0 where
   pub depth_is : depth ≡ symbol.parameters + length symbol.arguments
   pub guards_are : guards ≡ guards_of writer depth symbol.arguments (length symbol.arguments)
   pub term_is : term
       ≡ own_application (choices_in writer) (numbers_in writer) (signature_in writer) depth f symbol
   pub conclusion_is : conclusion ≡ guard_in writer depth value term
-  pub body_is : body ≡ under guards conclusion
-  pub inner_is : inner ≡ closed count body
 
-pub typing_axiom-guarded : (writer : Writer) (f : ℕ) (symbol : Symbol) (value : Ty) (depth count : ℕ)
-    (guards : List Fof) (term : FofTerm) (conclusion body inner : Fof) → writer.guarded ≡ true →
-    AxiomParts writer f symbol value depth count guards term conclusion body inner →
-    closed symbol.parameters inner
+pub typing_axiom-guarded : (writer : Writer) (f : ℕ) (symbol : Symbol) (value : Ty) (depth : ℕ)
+    (guards : List Fof) (term : FofTerm) (conclusion : Fof) → writer.guarded ≡ true →
+    AxiomParts writer f symbol value depth guards term conclusion →
+    closed depth (under guards conclusion)
     ≡ typing_axiom (choices_in writer) (numbers_in writer) (signature_in writer) f symbol value
-typing_axiom-guarded writer f symbol value depth count guards term conclusion body inner guarded parts =
+typing_axiom-guarded writer f symbol value depth guards term conclusion guarded parts =
     let arity = length symbol.arguments in
     let whole = symbol.parameters + arity in
     let at = λ (d : ℕ). own_application (choices_in writer) (numbers_in writer) (signature_in writer) d f symbol in
+    let body = λ (d : ℕ). under (guards_of writer d symbol.arguments arity) (guard_in writer d value (at d)) in
     let over = λ (p : Fof). closed symbol.parameters (closed arity p) in
-    ap (closed symbol.parameters) (parts.inner_is ∙ ap (λ n. closed n body) parts.count_is)
-    ∙ ap over (parts.body_is
-    ∙ ap (λ (list : List Fof). under list conclusion) parts.guards_are
+    ap (closed depth)
+    (ap (λ (list : List Fof). under list conclusion) parts.guards_are
     ∙ ap (under (guards_of writer depth symbol.arguments arity))
-    (parts.conclusion_is ∙ ap (guard_in writer depth value) parts.term_is)
-    ∙ ap (λ d. under (guards_of writer d symbol.arguments arity) (guard_in writer d value (at d))) parts.depth_is
-    ∙ ap (λ (list : List Fof). under list (guard_in writer whole value (at whole)))
+    (parts.conclusion_is ∙ ap (guard_in writer depth value) parts.term_is))
+    ∙ ap (λ d. closed d (body d)) parts.depth_is
+    ∙ closed-add symbol.parameters arity (body whole)
+    ∙ ap over (ap (λ (list : List Fof). under list (guard_in writer whole value (at whole)))
     (sym (premises-guarded writer whole guarded (covers symbol) symbol.arguments arity (length-covers symbol)))
     ∙ ap (under (premises (choices_in writer) (numbers_in writer) (signature_in writer) whole (covers symbol)
     symbol.arguments arity)) (sym (bind-guarded writer whole guarded value (at whole))))

@@ -1,5 +1,6 @@
 pub mod Translation
 pub mod Occurrence
+pub mod Closures
 pub mod Names
 pub mod Marks
 pub mod Results

@@ -6,6 +6,7 @@ pub mod Occurrence
 pub mod Names
 pub mod Encoded
 pub mod Marks
+pub mod Closures
 pub mod Flags
 pub mod Marked
 pub mod Uniform

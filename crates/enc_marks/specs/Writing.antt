@@ -13,7 +13,7 @@ use Rattle.tf_core.specs.declared.signature.Symbol.{Symbol}
 use Rattle.tf_core.specs.declared.normal.NormalFormula.{NormalFormula}
 use Rattle.fof_models.specs.declared.formula.Fof.TheVariants.{ForAll}
 use Rattle.fof_models.specs.declared.problem.FofFormula.{FofFormula}
-use Rattle.enc_marks.specs.Axioms.{closed_formula, own_application, typing_axiom, last_axiom}
+use Rattle.enc_marks.specs.Axioms.{own_application, typing_axiom, last_axiom}
 use Rattle.enc_marks.specs.declared.writer.Writer.{Writer}
 use Rattle.enc_marks.specs.Choices.{Choices, ByType}
 use Rattle.enc_marks.specs.Translation.{Numbers, arguments, bare, exists, for_all, formula, guard_by, selected, tag_by, type_term}
@@ -86,10 +86,7 @@ for_all_in writer = for_all (choices_in writer) (numbers_in writer) (signature_i
 abbrev pub exists_in : Writer → ℕ → Ty → Fof → Fof
 exists_in writer = exists (choices_in writer) (numbers_in writer) (signature_in writer)
 
--- closed formulas
-
-abbrev pub closed_in : Writer → NormalFormula → Fof
-closed_in writer = closed_formula (choices_in writer) (numbers_in writer) (signature_in writer)
+-- axioms
 
 abbrev pub application_in : Writer → ℕ → ℕ → Symbol → FofTerm
 application_in writer = own_application (choices_in writer) (numbers_in writer) (signature_in writer)

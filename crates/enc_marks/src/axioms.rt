@@ -1,25 +1,14 @@
-ghost use Rattle.std.specs.Prelude.{◌≡◌, ◌-◌, List, map, length, IfOk, IsTrue};
+ghost use Rattle.std.specs.Prelude.{◌≡◌, ◌+◌, ◌-◌, List, map, length, IfOk, IsTrue};
 ghost use Rattle.enc_marks.specs.Axioms as specs;
 ghost use Rattle.enc_marks.specs.Axioms.{own_types};
-ghost use Rattle.enc_marks.specs.Writing.{application_in, closed_in, guards_of, last_in, type_term_in, typing_axiom_in};
+ghost use Rattle.enc_marks.specs.Writing.{application_in, guards_of, last_in, type_term_in, typing_axiom_in};
 ghost use Rattle.tf_core.specs.declared.ty.Ty.TheVariants as type;
 
 use crate::writer::{Writer, in_32_bits, type_variable};
 use enc_base::{Boxed, List, NoMemory};
 use fof_models::{Fof, FofTerm};
 use std::alloc::Global;
-use tf_core::{NormalFormula, Symbol, Ty};
-
-/// A formula under so many universal quantifiers.
-pub fn closed(alloc: Global, count: u32, body: Fof) -> Result<Fof, NoMemory>
-    ensures { IfOk result (λ made. made ≡ specs.closed count body) }
-{
-    let mut made = body;
-    for _binder in 0..count {
-        made = Fof::ForAll(Boxed::new(alloc, made)?);
-    }
-    Ok(made)
-}
+use tf_core::{Symbol, Ty};
 
 /// A conclusion under premises.
 pub fn under(alloc: Global, premises: List<Fof>, conclusion: Fof) -> Result<Fof, NoMemory>
@@ -44,14 +33,6 @@ fn implication(alloc: Global, premise: Fof, conclusion: Fof) -> Result<Fof, NoMe
 }
 
 impl<'a> Writer<'a> {
-    /// A formula with its type variables bound.
-    pub fn closed_formula(&self, alloc: Global, formula: &NormalFormula) -> Result<Fof, NoMemory>
-        ensures { IfOk result (λ made. made ≡ closed_in self.now formula.now) }
-    {
-        let body = self.formula(alloc, &formula.body, formula.type_variables)?;
-        closed(alloc, formula.type_variables, body)
-    }
-
     // a symbol's parameters as terms
     fn own_types(
         &self,
@@ -100,34 +81,33 @@ impl<'a> Writer<'a> {
         Ok(made)
     }
 
-    /// The typing axiom of the f-th symbol, whose result has this type.
+    /// The typing axiom of the f-th symbol, whose result has this type, below its quantifiers: there
+    /// are as many as the symbol has parameters and arguments.
     pub fn typing_axiom(
         &self,
         alloc: Global,
         f: u32,
         symbol: &Symbol,
         value: &Ty,
+        depth: u32,
     ) -> Result<Fof, NoMemory>
         requires guarded { IsTrue self.now.guarded }
-        ensures exact { IfOk result (λ made. made ≡ typing_axiom_in self.now f symbol.now value.now) }
+        requires depth_is { depth ≡ symbol.now.parameters + length symbol.now.arguments }
+        ensures exact { IfOk result (λ made. specs.closed depth made ≡ typing_axiom_in self.now f symbol.now
+            value.now) }
     {
-        let count = in_32_bits(symbol.arguments.as_slice().len(), 0)?;
-        let depth = in_32_bits(symbol.parameters as usize, count as usize)?;
         let premises = self.guards(alloc, symbol.arguments.as_slice(), depth)?;
         let term = self.own_application(alloc, f, symbol, depth)?;
         let conclusion = self.guard(alloc, term, value, depth)?;
-        let body = under(alloc, premises, conclusion)?;
-        let inner = closed(alloc, count, body)?;
-        closed(alloc, symbol.parameters, inner)
+        under(alloc, premises, conclusion)
     }
 
-    /// Each type has an element.
+    /// Each type has an element: the axiom below the quantifier of the type.
     pub fn inhabitation(&self, alloc: Global) -> Result<Fof, NoMemory>
         requires guarded { IsTrue self.now.guarded }
-        ensures exact { IfOk result (λ made. made ≡ last_in self.now) }
+        ensures exact { IfOk result (λ made. specs.closed 1 made ≡ last_in self.now) }
     {
         let guard = self.guard(alloc, FofTerm::Var(0), &Ty::Var(0), 2)?;
-        let some = Fof::Exists(Boxed::new(alloc, guard)?);
-        Ok(Fof::ForAll(Boxed::new(alloc, some)?))
+        Ok(Fof::Exists(Boxed::new(alloc, guard)?))
     }
 }

@@ -1,11 +1,13 @@
 ghost use Rattle.std.specs.Prelude.{◌≡◌, map, IfOk};
 ghost use Rattle.fof_models.specs.declared.problem.FofFormula.{FofFormula};
+ghost use Rattle.enc_marks.specs.Closures.{closure_of, closures};
 ghost use Rattle.enc_marks.specs.Encoded.{encoded};
 ghost use Rattle.enc_marks.specs.Flags.{number_of, renumbered_by};
 ghost use Rattle.enc_marks.specs.Uniform.{uniform};
 
 use crate::encoded::Encoded;
 use crate::flags::Occurring;
+use crate::open_formula::OpenFormula;
 use crate::renumber::Numbering;
 use crate::writer::Writer;
 use enc_base::{List, NoMemory};
@@ -14,24 +16,28 @@ use std::alloc::Global;
 use tf_core::Normal;
 
 impl Numbering {
-    fn stated(&self, alloc: Global, formulas: &[FofFormula]) -> Result<List<FofFormula>, NoMemory>
-        ensures { IfOk result (λ made. made ≡ map (renumbered_by (number_of self.now)) formulas.now) }
+    // the formulas under the new numbers, with all their quantifiers
+    fn closures(
+        &self,
+        alloc: Global,
+        formulas: List<OpenFormula>,
+    ) -> Result<List<FofFormula>, NoMemory>
+        ensures { IfOk result (λ made. made ≡ map (renumbered_by (number_of self.now)) (closures
+            formulas)) }
     {
         let mut made = List::new(alloc);
-        for formula in formulas {
-            made.push(self.one_stated(alloc, formula)?)?;
+        for formula in formulas.into_vec() {
+            made.push(self.closure(alloc, formula)?)?;
         }
         Ok(made)
     }
 
-    fn one_stated(&self, alloc: Global, formula: &FofFormula) -> Result<FofFormula, NoMemory>
-        ensures { IfOk result (λ made. made ≡ renumbered_by (number_of self.now) formula.now) }
+    fn closure(&self, alloc: Global, formula: OpenFormula) -> Result<FofFormula, NoMemory>
+        ensures { IfOk result (λ made. made ≡ renumbered_by (number_of self.now) (closure_of formula)) }
     {
-        Ok(FofFormula {
-            name: formula.name.copy(alloc)?,
-            role: formula.role.copy(alloc)?,
-            body: self.formula(alloc, &formula.body)?,
-        })
+        let mut formula = formula;
+        formula.body = self.formula(alloc, &formula.body)?;
+        formula.closure(alloc)
     }
 }
 
@@ -55,7 +61,7 @@ pub fn encode_uniform(
     let stated = writer.translation(alloc)?;
     let occurring = Occurring::of_formulas(alloc, stated.as_slice())?;
     let numbering = Numbering::new(alloc, &occurring)?;
-    let formulas = numbering.stated(alloc, stated.as_slice())?;
+    let formulas = numbering.closures(alloc, stated)?;
     let marked = writer.marked(alloc, &occurring)?;
     Ok(Encoded {
         problem: FofProblem {

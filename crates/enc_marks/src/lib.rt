@@ -10,14 +10,13 @@ mod laws;
 mod mark;
 mod marked;
 mod occurring;
+mod open_formula;
 mod refusal;
 mod renumber;
 mod scheme;
 mod signature;
 mod stated;
 mod terms;
-#[cfg(test)]
-mod tests;
 mod types;
 mod writer;
 

@@ -1,18 +1,21 @@
 ghost use Rattle.std.specs.Prelude.{◌≡◌, ◌+◌, ◌<◌, ◌^◌, ◌||◌, ℕ, eqb, length, IfOk, OnOk};
 ghost use Rattle.std.specs.List.{list_any};
+ghost use Rattle.enc_marks.specs.Closures.{closures};
 ghost use Rattle.enc_marks.specs.Encoded.{is_present};
 ghost use Rattle.enc_marks.specs.Flags.{is_set};
 ghost use Rattle.enc_marks.specs.Occurrence.{occurs, occurs_in_term};
 
 use crate::flags::Occurring;
+use crate::open_formula::OpenFormula;
 use enc_base::NoMemory;
-use fof_models::{Fof, FofFormula, FofTerm};
+use fof_models::{Fof, FofTerm};
 use std::alloc::Global;
 
 impl Occurring {
     /// The symbols that occur in these formulas.
-    pub fn of_formulas(alloc: Global, formulas: &[FofFormula]) -> Result<Occurring, NoMemory>
-        ensures { IfOk result (λ occurring. (m : ℕ) → is_set occurring m ≡ is_present formulas.now m) }
+    pub fn of_formulas(alloc: Global, formulas: &[OpenFormula]) -> Result<Occurring, NoMemory>
+        ensures { IfOk result (λ occurring. (m : ℕ) → is_set occurring m ≡ is_present (closures
+            formulas.now) m) }
     {
         let mut occurring = Occurring {
             flags: Vec::new(alloc),

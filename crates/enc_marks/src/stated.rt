@@ -1,13 +1,15 @@
 ghost use Rattle.std.specs.Prelude.{◌≡◌, ◌++◌, ◌∷◌, [], List, IfOk, OnOk, IsTrue};
 ghost use Rattle.enc_marks.specs.Axioms.{typing_axiom};
+ghost use Rattle.enc_marks.specs.Closures.{closure_of, closures};
 ghost use Rattle.enc_marks.specs.Encoded as specs;
 ghost use Rattle.enc_marks.specs.Encoded.{axiom_named, role_of};
 ghost use Rattle.enc_marks.specs.Names.{typing_name};
 ghost use Rattle.enc_marks.specs.Writing.{choices_in, lasts_in, stated_in, typing_axiom_in, typing_in, typings_in};
 
+use crate::open_formula::OpenFormula;
 use crate::writer::{Writer, in_32_bits};
 use enc_base::{List, Name, NoMemory};
-use fof_models::{FofFormula, FofRole};
+use fof_models::FofRole;
 use std::alloc::Global;
 use tf_core::{NormalFormula, Symbol, Ty};
 
@@ -32,13 +34,14 @@ fn role(negated: bool) -> FofRole
 }
 
 impl<'a> Writer<'a> {
-    fn stated(&self, alloc: Global, formula: &NormalFormula) -> Result<FofFormula, NoMemory>
-        ensures { IfOk result (λ made. made ≡ stated_in self.now formula.now) }
+    fn stated(&self, alloc: Global, formula: &NormalFormula) -> Result<OpenFormula, NoMemory>
+        ensures { IfOk result (λ made. closure_of made ≡ stated_in self.now formula.now) }
     {
-        Ok(FofFormula {
+        Ok(OpenFormula {
             name: formula.name.copy(alloc)?,
             role: role(formula.negated),
-            body: self.closed_formula(alloc, formula)?,
+            binders: formula.type_variables,
+            body: self.formula(alloc, &formula.body, formula.type_variables)?,
         })
     }
 
@@ -48,28 +51,31 @@ impl<'a> Writer<'a> {
         f: usize,
         symbol: &Symbol,
         value: &Ty,
-    ) -> Result<FofFormula, NoMemory>
+    ) -> Result<OpenFormula, NoMemory>
         requires guarded { IsTrue self.now.guarded }
-        ensures exact { IfOk result (λ made. made ≡ axiom_named (typing_name symbol.now.name) (typing_axiom_in
+        ensures exact { IfOk result (λ made. closure_of made ≡ axiom_named (typing_name symbol.now.name) (typing_axiom_in
             self.now f symbol.now value.now)) }
     {
         let number = in_32_bits(f, 0)?;
-        Ok(FofFormula {
+        let count = symbol.arguments.as_slice().len();
+        let binders = in_32_bits(symbol.parameters as usize, count)?;
+        Ok(OpenFormula {
             name: joined(alloc, b"typing_", symbol.name.as_slice())?,
             role: FofRole::Axiom,
-            body: self.typing_axiom(alloc, number, symbol, value)?,
+            binders,
+            body: self.typing_axiom(alloc, number, symbol, value, binders)?,
         })
     }
 
     fn add_typing(
         &self,
         alloc: Global,
-        made: &mut List<FofFormula>,
+        made: &mut List<OpenFormula>,
         f: usize,
         symbol: &Symbol,
     ) -> Result<(), NoMemory>
         requires guarded { IsTrue self.now.guarded }
-        ensures exact { OnOk result (made.new ≡ made.old ++ typing_in self.now f symbol.now) }
+        ensures exact { OnOk result (closures made.new ≡ closures made.old ++ typing_in self.now f symbol.now) }
     {
         if let Some(value) = &symbol.result {
             made.push(self.typing(alloc, f, symbol, value)?)?;
@@ -77,9 +83,9 @@ impl<'a> Writer<'a> {
         Ok(())
     }
 
-    fn add_typings(&self, alloc: Global, made: &mut List<FofFormula>) -> Result<(), NoMemory>
+    fn add_typings(&self, alloc: Global, made: &mut List<OpenFormula>) -> Result<(), NoMemory>
         requires guarded { IsTrue self.now.guarded }
-        ensures exact { OnOk result (made.new ≡ made.old ++ typings_in self.now) }
+        ensures exact { OnOk result (closures made.new ≡ closures made.old ++ typings_in self.now) }
     {
         let symbols = self.normal.signature.symbols.as_slice();
         for (f, symbol) in symbols.iter().enumerate() {
@@ -88,19 +94,20 @@ impl<'a> Writer<'a> {
         Ok(())
     }
 
-    fn last(&self, alloc: Global) -> Result<FofFormula, NoMemory>
+    fn last(&self, alloc: Global) -> Result<OpenFormula, NoMemory>
         requires guarded { IsTrue self.now.guarded }
-        ensures exact { IfOk result (λ made. (made ∷ []) ≡ lasts_in self.now) }
+        ensures exact { IfOk result (λ made. closures (made ∷ []) ≡ lasts_in self.now) }
     {
-        Ok(FofFormula {
+        Ok(OpenFormula {
             name: Name::from_slice(alloc, b"inhabitation")?,
             role: FofRole::Axiom,
+            binders: 1,
             body: self.inhabitation(alloc)?,
         })
     }
 
-    fn add_axioms(&self, alloc: Global, made: &mut List<FofFormula>) -> Result<(), NoMemory>
-        ensures { OnOk result (made.new ≡ made.old ++ (typings_in self.now ++ lasts_in self.now)) }
+    fn add_axioms(&self, alloc: Global, made: &mut List<OpenFormula>) -> Result<(), NoMemory>
+        ensures { OnOk result (closures made.new ≡ closures made.old ++ (typings_in self.now ++ lasts_in self.now)) }
     {
         if self.guarded {
             self.add_typings(alloc, made)?;
@@ -110,9 +117,9 @@ impl<'a> Writer<'a> {
         }
     }
 
-    /// The formulas, the typing axioms and the last axiom.
-    pub fn translation(&self, alloc: Global) -> Result<List<FofFormula>, NoMemory>
-        ensures { IfOk result (λ made. made ≡ specs.translation (choices_in self.now)
+    /// The formulas, the typing axioms and the last axiom, each below its outermost quantifiers.
+    pub fn translation(&self, alloc: Global) -> Result<List<OpenFormula>, NoMemory>
+        ensures { IfOk result (λ made. closures made ≡ specs.translation (choices_in self.now)
             self.now.normal.now) }
     {
         let mut made = List::new(alloc);

@@ -6,6 +6,11 @@ pub mod Agreement
 pub mod Tabled
 pub mod Places
 pub mod Parts
+pub mod Prefixes
+pub mod PrefixCounts
+pub mod Tuples
+pub mod PrefixTruth
+pub mod Searching
 pub mod Depth
 pub mod Stated
 pub mod Tested

@@ -1,9 +1,7 @@
 -- The parts of a formula: that they are sound, that they have room, and what their truth makes.
-use Rattle.std.specs.Prelude.{ℕ, zero, suc, ◌≡◌, ◌<◌, ◌≤◌, ◌+◌, max, Bool, true, false, not, ◌||◌, List, [], ◌∷◌, map, length, reverse, get_or, eqb, IsTrue, slice_get}
-use Rattle.std.proofs.Common.{refl, sym, ap, ◌∙◌, subst, arith}
-use Rattle.std.proofs.lemmas.Bool.{and_parts, false≢true}
-use Rattle.enc_base.specs.Quantifiers.{all_below, some_below}
-use Rattle.enc_base.proofs.Quantifiers.{all_below-at, some_below-from}
+use Rattle.std.specs.Prelude.{ℕ, zero, suc, ◌≡◌, ◌<◌, ◌≤◌, max, Bool, true, false, not, ◌||◌, List, [], ◌∷◌, map, length, reverse, get_or, eqb, IsTrue, slice_get}
+use Rattle.std.proofs.Common.{sym, ap, ◌∙◌, subst, arith}
+use Rattle.std.proofs.lemmas.Bool.{and_parts}
 use Rattle.fof_models.specs.declared.problem.FofSymbol.{FofSymbol}
 use Rattle.fof_models.specs.declared.formula.FofTerm.{FofTerm}
 use Rattle.fof_models.specs.declared.formula.Fof.{Fof}
@@ -11,9 +9,9 @@ use Rattle.fof_models.specs.declared.formula.Fof.TheVariants as formula
 use Rattle.fof_models.specs.declared.structure.Structure.{Structure}
 use Rattle.fof_models.specs.Structures.{reading}
 use Rattle.fof_models.specs.Sound.{is_symbol, is_term, are_terms, is_formula, are_formulas, depth, greatest}
-use Rattle.fof_models.specs.Evaluation.{value_in, true_in, true_with, all_true, some_true}
-use Rattle.fof_models.proofs.Truth.{truth-true, truth-false, truth-atom, truth-equal, truth-not, truth-and, truth-or, truth-implies, truth-for_all, truth-exists}
-use Rattle.fof_models.proofs.Sound.{is_formula-atom, is_formula-equal, is_formula-not, is_formula-and, is_formula-or, is_formula-implies, is_formula-for_all, is_formula-exists, depth-not, depth-and, depth-or, depth-implies, depth-for_all, depth-exists}
+use Rattle.fof_models.specs.Evaluation.{value_in, true_in, all_true, some_true}
+use Rattle.fof_models.proofs.Truth.{truth-true, truth-false, truth-atom, truth-equal, truth-not, truth-and, truth-or, truth-implies}
+use Rattle.fof_models.proofs.Sound.{is_formula-atom, is_formula-equal, is_formula-not, is_formula-and, is_formula-or, is_formula-implies, depth-not, depth-and, depth-or, depth-implies}
 
 -- soundness
 
@@ -57,16 +55,6 @@ module _ (signature : List FofSymbol) (binders : ℕ) (p : Fof) where
       and_parts (is_formula signature a binders) (is_formula signature b binders)
       (sym (is_formula-implies signature a b binders) ∙ sound_as (formula.Implies a b) is sound)
 
-  pub for_all_sound : (body : Fof) → p ≡ formula.ForAll body →
-      IsTrue (is_formula signature p binders) → IsTrue (is_formula signature body (binders + 1))
-  for_all_sound body is sound =
-      sym (is_formula-for_all signature body binders) ∙ sound_as (formula.ForAll body) is sound
-
-  pub exists_sound : (body : Fof) → p ≡ formula.Exists body →
-      IsTrue (is_formula signature p binders) → IsTrue (is_formula signature body (binders + 1))
-  exists_sound body is sound =
-      sym (is_formula-exists signature body binders) ∙ sound_as (formula.Exists body) is sound
-
 -- depth
 
 module _ (p : Fof) where
@@ -81,12 +69,6 @@ module _ (p : Fof) where
 
   pub implies_depth : (a b : Fof) → p ≡ formula.Implies a b → depth p ≡ max (depth a) (depth b)
   implies_depth a b is = ap depth is ∙ depth-implies a b
-
-  pub for_all_depth : (body : Fof) → p ≡ formula.ForAll body → depth p ≡ depth body + 1
-  for_all_depth body is = ap depth is ∙ depth-for_all body
-
-  pub exists_depth : (body : Fof) → p ≡ formula.Exists body → depth p ≡ depth body + 1
-  exists_depth body is = ap depth is ∙ depth-exists body
 
 -- truth
 
@@ -121,24 +103,21 @@ module _ (s : Structure) (items : List ℕ) (p : Fof) (held : Bool) where
   or_is parts is at =
       at ∙ sym (ap (true_in s items) is ∙ truth-or (reading s) parts (reverse items))
 
+  -- the conclusion, looked at where the premise is true
   pub implies_is : (a b : Fof) (premise conclusion : Bool) → p ≡ formula.Implies a b →
-      premise ≡ true_in s items a → conclusion ≡ true_in s items b →
-      held ≡ (not premise || conclusion) → held ≡ true_in s items p
-  implies_is a b premise conclusion is first second at =
-      at
-      ∙ ap (λ x. not x || conclusion) first
-      ∙ ap (λ x. not (true_in s items a) || x) second
+      premise ≡ true_in s items a → premise ≡ true → conclusion ≡ true_in s items b →
+      conclusion ≡ true_in s items p
+  implies_is a b premise conclusion is first holds second =
+      second
+      ∙ ap (λ x. not x || true_in s items b) (sym holds ∙ first)
       ∙ sym (ap (true_in s items) is ∙ truth-implies (reading s) a b (reverse items))
 
-  pub for_all_is : (body : Fof) → p ≡ formula.ForAll body →
-      held ≡ all_below s.size (true_with s items body) → held ≡ true_in s items p
-  for_all_is body is at =
-      at ∙ sym (ap (true_in s items) is ∙ truth-for_all (reading s) body (reverse items))
-
-  pub exists_is : (body : Fof) → p ≡ formula.Exists body →
-      held ≡ some_below s.size (true_with s items body) → held ≡ true_in s items p
-  exists_is body is at =
-      at ∙ sym (ap (true_in s items) is ∙ truth-exists (reading s) body (reverse items))
+  -- and where it is false
+  pub implied : (a b : Fof) (premise : Bool) → p ≡ formula.Implies a b →
+      premise ≡ true_in s items a → premise ≡ false → true ≡ true_in s items p
+  implied a b premise is first fails =
+      ap (λ x. not x || true_in s items b) (sym fails ∙ first)
+      ∙ sym (ap (true_in s items) is ∙ truth-implies (reading s) a b (reverse items))
 
 -- an item of a list of sound formulas
 pub formula_sound_at : (signature : List FofSymbol) (binders i : ℕ) (parts : List Fof) (part : Fof) →
@@ -163,18 +142,3 @@ depth_at i parts part within is =
     go i [] within = absurd (omega arith)
     go zero (x ∷ xs) within = omega arith
     go (suc i) (x ∷ xs) within = omega (arith, go i xs (omega arith))
-
--- a binder's body that is false of an element, and one that is true of one
-
-pub each_fails : (bound element : ℕ) (test : ℕ → Bool) (held : Bool) → element < bound →
-    held ≡ false → held ≡ test element → false ≡ all_below bound test
-each_fails bound element test held within fails is = go (all_below bound test) (all_below-at bound test)
-  where
-    go : (b : Bool) → (IsTrue b → (n : ℕ) → n < bound → IsTrue (test n)) → false ≡ b
-    go false each = refl
-    go true each = absurd (false≢true (sym fails ∙ is ∙ each refl element within))
-
-pub some_holds_of : (bound element : ℕ) (test : ℕ → Bool) (held : Bool) → element < bound →
-    held ≡ true → held ≡ test element → true ≡ some_below bound test
-some_holds_of bound element test held within holds is =
-    sym (some_below-from bound test element within (sym is ∙ holds))

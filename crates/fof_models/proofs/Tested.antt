@@ -13,10 +13,10 @@ module _ (whole p q first : Bool) (both : whole ≡ (p && q)) (first_is : first 
   pub and_else : first ≡ false → first ≡ whole
   and_else fails = fails ∙ ap (λ b. b && q) (sym fails ∙ first_is) ∙ sym both
 
--- one more than a count that stops at the greatest
-pub Counts-more : (count next n : ℕ) → Counts count n → next ≡ min (count + 1) (2 ^ 64 - 1) →
-    Counts next (n + 1)
-Counts-more count next n counts is = omega arith
+-- one more than a count that stops at the greatest, and so many more
+pub Counts-plus : (count next n more : ℕ) → Counts count n →
+    next ≡ min (count + (1 + more)) (2 ^ 64 - 1) → Counts next (n + 1 + more)
+Counts-plus count next n more counts is = omega arith
 
 pub ltb-counted : (i count n : ℕ) → i < 2 ^ 32 → Counts count n → ltb i count ≡ ltb i n
 ltb-counted i count n small counts = grind (arith, nat_tests)

@@ -1,6 +1,6 @@
 -- Words of the evaluator's contracts: an assignment as an environment holds it, the last element
 -- being the nearest binder's.
-use Rattle.std.specs.Prelude.{ℕ, ◌≡◌, Bool, List, ◌∷◌, replicate, reverse}
+use Rattle.std.specs.Prelude.{ℕ, ◌≡◌, Bool, List, ◌++◌, replicate, reverse}
 use Rattle.std.specs.List.{list_all, list_any}
 use Rattle.enc_base.specs.Tables.{EachBelow, place}
 use Rattle.fof_models.specs.declared.formula.FofTerm.{FofTerm}
@@ -17,10 +17,6 @@ value_in s items t = value (reading s) (reverse items) t
 -- whether a formula is true under an environment's items
 abbrev pub true_in : Structure → List ℕ → Fof → Bool
 true_in s items formula = truth (reading s) formula (reverse items)
-
--- whether it is with one element more
-abbrev pub true_with : Structure → List ℕ → Fof → ℕ → Bool
-true_with s items formula element = truth (reading s) formula (element ∷ reverse items)
 
 -- whether each part is true, and whether some is
 
@@ -39,3 +35,16 @@ pub record IsReady (signature : List FofSymbol) (s : Structure) (items : List �
 pub record IsPlaced (bound : ℕ) (values : List ℕ) (count at : ℕ) : Type 0 where
   pub place_is : at ≡ place (replicate count bound) values
   pub below : EachBelow (replicate count bound) values
+
+-- whether a formula has a truth value for each tuple of so many elements more
+abbrev pub IsEach : Structure → List ℕ → Fof → ℕ → Bool → Type 0
+IsEach s items body count value =
+    (tuple : List ℕ) → EachBelow (replicate count s.size) tuple →
+    true_in s (items ++ tuple) body ≡ value
+
+-- items that end in a tuple of so many numbers below a bound, before which a number of tuples stand
+pub record IsTuple (bound count : ℕ) (front items : List ℕ) (number : ℕ) : Type 0 where
+  pub tuple : List ℕ
+  pub items_are : items ≡ front ++ tuple
+  pub below : EachBelow (replicate count bound) tuple
+  pub number_is : place (replicate count bound) tuple ≡ number

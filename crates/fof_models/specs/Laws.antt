@@ -1,5 +1,5 @@
 -- What the definitions promise one another.
-use Rattle.std.specs.Prelude.{ℕ, ◌<◌, ◌≡◌, ◌↔◌, List, ◌∷◌, length, get_or, replicate, slice_get, Some, IsTrue}
+use Rattle.std.specs.Prelude.{ℕ, ◌+◌, ◌<◌, ◌≡◌, ◌↔◌, List, ◌∷◌, ◌++◌, length, get_or, replicate, reverse, slice_get, Some, IsTrue}
 use Rattle.enc_base.specs.Tables.{EachBelow, tuple_count, place, table}
 use Rattle.fof_models.specs.declared.formula.Fof.{Fof}
 use Rattle.fof_models.specs.declared.formula.Fof.TheVariants.{ForAll, Exists}
@@ -7,6 +7,7 @@ use Rattle.fof_models.specs.declared.problem.FofSymbol.{FofSymbol}
 use Rattle.fof_models.specs.declared.problem.FofProblem.{FofProblem}
 use Rattle.fof_models.specs.declared.structure.Structure.{Structure}
 use Rattle.fof_models.specs.Structures.{Untyped, reading, IsStructure, IsWellFormed}
+use Rattle.fof_models.specs.Prefix.{under_universals, under_existentials}
 use Rattle.fof_models.specs.Truth.{truth}
 use Rattle.fof_models.specs.Models.{IsModel, AreModel}
 use Rattle.fof_models.specs.Sound.{IsSound}
@@ -23,6 +24,28 @@ abbrev pub ExistentialIsTrueOfSome : Type 0
 ExistentialIsTrueOfSome = (s : Untyped) (body : Fof) (elements : List ℕ) →
     IsTrue (truth s (Exists body) elements)
     ↔ ((element : ℕ) × (element < s.size) × IsTrue (truth s body (element ∷ elements)))
+
+-- Under no quantifiers a formula is itself, and under one more it is quantified once more.
+pub record PrefixesAreQuantifiers : Type 0 where
+  pub no_universals : (body : Fof) → under_universals 0 body ≡ body
+  pub more_universals : (count : ℕ) (body : Fof) →
+      under_universals (count + 1) body ≡ ForAll (under_universals count body)
+  pub no_existentials : (body : Fof) → under_existentials 0 body ≡ body
+  pub more_existentials : (count : ℕ) (body : Fof) →
+      under_existentials (count + 1) body ≡ Exists (under_existentials count body)
+
+-- The textbook's reading of a prefix: a formula under so many universal quantifiers is true exactly
+-- where it is true of each tuple of so many elements, and one under existential quantifiers where
+-- it is true of some. The first part of a tuple is the outermost quantifier's.
+pub record PrefixesAreTrueOfTuples : Type 0 where
+  pub universal : (s : Untyped) (count : ℕ) (body : Fof) (elements : List ℕ) →
+      IsTrue (truth s (under_universals count body) elements)
+      ↔ ((tuple : List ℕ) → EachBelow (replicate count s.size) tuple →
+      IsTrue (truth s body (reverse tuple ++ elements)))
+  pub existential : (s : Untyped) (count : ℕ) (body : Fof) (elements : List ℕ) →
+      IsTrue (truth s (under_existentials count body) elements)
+      ↔ ((tuple : List ℕ) × EachBelow (replicate count s.size) tuple
+      × IsTrue (truth s body (reverse tuple ++ elements)))
 
 -- The table of a function has as many entries as there are tuples, and the function's value at a
 -- tuple stands at the tuple's place.

@@ -1,6 +1,7 @@
 pub mod Structures
 pub mod Truth
 pub mod Models
+pub mod Prefix
 pub mod Sound
 pub mod Counted
 pub mod Room

@@ -1,4 +1,6 @@
-ghost use Rattle.std.specs.Prelude.{◌≡◌, ◌<◌, ◌+◌, ◌-◌, [], ◌∷◌, ◌++◌, length, take, slice_index, IfOk};
+ghost use Rattle.std.specs.Prelude.{ℕ, ◌≡◌, ◌<◌, ◌≤◌, ◌+◌, ◌-◌, true, false, List, [], ◌∷◌, ◌++◌, length, take, replicate, slice_index, IfOk};
+ghost use Rattle.enc_base.specs.Tables.{tuple_count};
+ghost use Rattle.fof_models.specs.Evaluation.{IsTuple};
 
 use enc_base::NoMemory;
 use std::alloc::Global;
@@ -51,6 +53,52 @@ impl FofEnv {
         ensures kept { self.new.room ≡ self.old.room }
     {
         self.used -= 1;
+    }
+
+    /// Appends so many zeros: the first tuple of elements.
+    pub(crate) fn bind_zeros(&mut self, count: usize)
+        requires room { length self.old.items + count ≤ self.old.room }
+        ensures exact { self.new.items ≡ self.old.items ++ replicate count 0 }
+        ensures kept { self.new.room ≡ self.old.room }
+    {
+        for _ in 0..count {
+            self.bind(0);
+        }
+    }
+
+    /// Removes so many elements, the last ones.
+    pub(crate) fn unbind_last(&mut self, count: usize)
+        requires some { count ≤ length self.old.items }
+        ensures exact { self.new.items ≡ take (length self.old.items - count) self.old.items }
+        ensures kept { self.new.room ≡ self.old.room }
+    {
+        self.used -= count;
+    }
+
+    /// Replaces so many elements, the last ones, by the next tuple of numbers below a bound. Where
+    /// there is none, it removes them. Says whether there is one.
+    pub(crate) fn next_tuple(&mut self, count: usize, bound: u32) -> bool
+        requires some { 0 < bound }
+        requires there { count ≤ length self.old.items }
+        requires room { length self.old.items ≤ self.old.room }
+        ensures next { result ≡ true → (front : List ℕ) (number : ℕ) →
+            IsTuple bound count front self.old.items number →
+            IsTuple bound count front self.new.items (number + 1) }
+        ensures last { result ≡ false → (front : List ℕ) (number : ℕ) →
+            IsTuple bound count front self.old.items number →
+            (self.new.items ≡ front) × (number + 1 ≡ tuple_count (replicate count bound)) }
+        ensures kept { self.new.room ≡ self.old.room }
+    {
+        for removed in 0..count {
+            let element = self.element(0);
+            self.unbind();
+            if element < bound - 1 {
+                self.bind(element + 1);
+                self.bind_zeros(removed);
+                return true;
+            }
+        }
+        false
     }
 
     /// The element of `FofTerm::Var(i)`.

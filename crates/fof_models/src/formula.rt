@@ -73,7 +73,12 @@ pub fn same_terms(terms: &[FofTerm], others: &[FofTerm]) -> bool
 }
 
 /// An untyped first-order formula.
-#[derive(Debug, Drop)]
+///
+/// A typing axiom begins with a quantifier for each argument of its symbol, so a prefix of
+/// quantifiers of one kind may be as long as the input. The calls of this crate go over it by a
+/// loop, and so does the drop of a formula: they take stack for the other levels alone. `Debug`,
+/// which is derived, takes stack for each.
+#[derive(Debug)]
 pub enum Fof {
     True,
     False,
@@ -85,6 +90,35 @@ pub enum Fof {
     Implies(Boxed<Fof>, Boxed<Fof>),
     ForAll(Boxed<Fof>),
     Exists(Boxed<Fof>),
+}
+
+impl Drop for Fof {
+    // A loop down the last part, so that a long prefix of quantifiers takes no stack.
+    fn drop(mut self) {
+        loop {
+            match self {
+                Fof::True => return,
+                Fof::False => return,
+                Fof::Atom(_, _) => return,
+                Fof::Equal(_, _) => return,
+                Fof::Not(a) => self = a.into_inner(),
+                Fof::And(parts) => {
+                    drop(parts);
+                    return;
+                }
+                Fof::Or(parts) => {
+                    drop(parts);
+                    return;
+                }
+                Fof::Implies(a, b) => {
+                    drop(a);
+                    self = b.into_inner();
+                }
+                Fof::ForAll(body) => self = body.into_inner(),
+                Fof::Exists(body) => self = body.into_inner(),
+            }
+        }
+    }
 }
 
 impl Fof {
@@ -102,8 +136,16 @@ impl Fof {
             Fof::And(parts) => Ok(Fof::And(copy_formulas(alloc, parts.as_slice())?)),
             Fof::Or(parts) => Ok(Fof::Or(copy_formulas(alloc, parts.as_slice())?)),
             Fof::Implies(a, b) => Ok(Fof::Implies(copy_boxed(alloc, a)?, copy_boxed(alloc, b)?)),
-            Fof::ForAll(body) => Ok(Fof::ForAll(copy_boxed(alloc, body)?)),
-            Fof::Exists(body) => Ok(Fof::Exists(copy_boxed(alloc, body)?)),
+            Fof::ForAll(inner) => {
+                let (more, body) = inner.get().below_universals();
+                let copied = body.copy(alloc)?.under_universals(alloc, more)?;
+                Ok(Fof::ForAll(Boxed::new(alloc, copied)?))
+            }
+            Fof::Exists(inner) => {
+                let (more, body) = inner.get().below_existentials();
+                let copied = body.copy(alloc)?.under_existentials(alloc, more)?;
+                Ok(Fof::Exists(Boxed::new(alloc, copied)?))
+            }
         }
     }
 
@@ -129,8 +171,16 @@ impl Fof {
             (Fof::Implies(a, b), Fof::Implies(c, d)) => {
                 a.get().same(c.get()) && b.get().same(d.get())
             }
-            (Fof::ForAll(a), Fof::ForAll(b)) => a.get().same(b.get()),
-            (Fof::Exists(a), Fof::Exists(b)) => a.get().same(b.get()),
+            (Fof::ForAll(a), Fof::ForAll(b)) => {
+                let (count, a) = a.get().below_universals();
+                let (other_count, b) = b.get().below_universals();
+                count == other_count && a.same(b)
+            }
+            (Fof::Exists(a), Fof::Exists(b)) => {
+                let (count, a) = a.get().below_existentials();
+                let (other_count, b) = b.get().below_existentials();
+                count == other_count && a.same(b)
+            }
             _ => false,
         }
     }
@@ -150,8 +200,14 @@ impl Fof {
             Fof::And(parts) => most_nested(parts.as_slice()),
             Fof::Or(parts) => most_nested(parts.as_slice()),
             Fof::Implies(a, b) => greater(a.get().nested(), b.get().nested()),
-            Fof::ForAll(body) => body.get().nested().saturating_add(1),
-            Fof::Exists(body) => body.get().nested().saturating_add(1),
+            Fof::ForAll(inner) => {
+                let (more, body) = inner.get().below_universals();
+                body.nested().saturating_add(more).saturating_add(1)
+            }
+            Fof::Exists(inner) => {
+                let (more, body) = inner.get().below_existentials();
+                body.nested().saturating_add(more).saturating_add(1)
+            }
         }
     }
 }

@@ -1,9 +1,7 @@
-ghost use Rattle.std.specs.Prelude.{◌≡◌, ◌<◌, ◌≤◌, ◌+◌, Bool, true, map, length, eqb, IsTrue, slice_get};
-ghost use Rattle.std.specs.List.{list_all, list_any};
-ghost use Rattle.enc_base.specs.Quantifiers.{all_below, some_below};
+ghost use Rattle.std.specs.Prelude.{◌≡◌, ◌≤◌, ◌+◌, ◌↔◌, true, map, length, eqb, IsTrue, slice_get};
 ghost use Rattle.fof_models.specs.Structures.{reading};
 ghost use Rattle.fof_models.specs.Sound.{is_symbol, are_terms, is_formula, are_formulas, depth, greatest};
-ghost use Rattle.fof_models.specs.Evaluation.{value_in, true_in, true_with, all_true, some_true, IsReady};
+ghost use Rattle.fof_models.specs.Evaluation.{value_in, true_in, all_true, some_true, IsReady, IsEach};
 
 use crate::env::FofEnv;
 use crate::formula::{Fof, FofTerm};
@@ -12,7 +10,8 @@ use crate::structure::Structure;
 
 impl Structure {
     /// Whether a formula is true under the elements of the environment, which stays as it was. It
-    /// takes no memory.
+    /// looks at no part behind one that decides: of conjuncts, of disjuncts, of elements, and at a
+    /// conclusion only where the premise is true. It takes no memory.
     #[cycle(holds)]
     pub fn holds(&self, signature: &[FofSymbol], formula: &Fof, env: &mut FofEnv) -> bool
         requires ready { IsReady signature.now self.now env.old.items }
@@ -34,12 +33,16 @@ impl Structure {
             Fof::And(parts) => self.all_hold(signature, parts.as_slice(), env),
             Fof::Or(parts) => self.some_holds(signature, parts.as_slice(), env),
             Fof::Implies(a, b) => {
-                let premise = self.holds(signature, a.get(), env);
-                let conclusion = self.holds(signature, b.get(), env);
-                !premise || conclusion
+                !self.holds(signature, a.get(), env) || self.holds(signature, b.get(), env)
             }
-            Fof::ForAll(body) => self.holds_of_each(signature, body.get(), env),
-            Fof::Exists(body) => self.holds_of_some(signature, body.get(), env),
+            Fof::ForAll(inner) => {
+                let (more, body) = inner.get().below_universals();
+                self.is_each(signature, body, 1 + more as usize, true, env)
+            }
+            Fof::Exists(inner) => {
+                let (more, body) = inner.get().below_existentials();
+                !self.is_each(signature, body, 1 + more as usize, false, env)
+            }
         }
     }
 
@@ -89,59 +92,29 @@ impl Structure {
         false
     }
 
-    // whether a binder's body holds of each element
+    // whether a formula has a truth value for each tuple of so many elements more
     #[cycle(holds)]
-    fn holds_of_each(&self, signature: &[FofSymbol], body: &Fof, env: &mut FofEnv) -> bool
-        requires ready { IsReady signature.now self.now env.old.items }
-        requires sound { IsTrue (is_formula signature.now body.now (length env.old.items + 1)) }
-        requires room { length env.old.items + depth body.now + 1 ≤ env.old.room }
-        ensures exact { result ≡ all_below self.now.size (true_with self.now env.old.items body.now) }
-        ensures kept { env.new ≡ env.old }
-    {
-        for element in 0..self.size {
-            if !self.holds_with(signature, body, element, env) {
-                return false;
-            }
-        }
-        true
-    }
-
-    // whether a binder's body holds of some element
-    #[cycle(holds)]
-    fn holds_of_some(&self, signature: &[FofSymbol], body: &Fof, env: &mut FofEnv) -> bool
-        requires ready { IsReady signature.now self.now env.old.items }
-        requires sound { IsTrue (is_formula signature.now body.now (length env.old.items + 1)) }
-        requires room { length env.old.items + depth body.now + 1 ≤ env.old.room }
-        ensures exact { result ≡ some_below self.now.size (true_with self.now env.old.items body.now) }
-        ensures kept { env.new ≡ env.old }
-    {
-        for element in 0..self.size {
-            if self.holds_with(signature, body, element, env) {
-                return true;
-            }
-        }
-        false
-    }
-
-    // whether a binder's body holds of an element
-    #[cycle(holds)]
-    fn holds_with(
+    fn is_each(
         &self,
         signature: &[FofSymbol],
         body: &Fof,
-        element: u32,
+        count: usize,
+        value: bool,
         env: &mut FofEnv,
     ) -> bool
         requires ready { IsReady signature.now self.now env.old.items }
-        requires sound { IsTrue (is_formula signature.now body.now (length env.old.items + 1)) }
-        requires room { length env.old.items + depth body.now + 1 ≤ env.old.room }
-        requires below { element < self.now.size }
-        ensures exact { result ≡ true_with self.now env.old.items body.now element }
+        requires sound { IsTrue (is_formula signature.now body.now (length env.old.items + count)) }
+        requires room { length env.old.items + count + depth body.now ≤ env.old.room }
+        ensures exact { IsTrue result ↔ IsEach self.now env.old.items body.now count value }
         ensures kept { env.new ≡ env.old }
     {
-        env.bind(element);
-        let held = self.holds(signature, body, env);
-        env.unbind();
-        held
+        env.bind_zeros(count);
+        while self.holds(signature, body, env) == value {
+            if !env.next_tuple(count, self.size) {
+                return true;
+            }
+        }
+        env.unbind_last(count);
+        false
     }
 }

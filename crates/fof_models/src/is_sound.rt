@@ -146,8 +146,14 @@ fn is_formula(signature: &[FofSymbol], formula: &Fof, binders: u64) -> bool
         Fof::Implies(a, b) => {
             is_formula(signature, a.get(), binders) && is_formula(signature, b.get(), binders)
         }
-        Fof::ForAll(body) => is_formula(signature, body.get(), binders.saturating_add(1)),
-        Fof::Exists(body) => is_formula(signature, body.get(), binders.saturating_add(1)),
+        Fof::ForAll(inner) => {
+            let (more, body) = inner.get().below_universals();
+            is_formula(signature, body, binders.saturating_add(1 + more as u64))
+        }
+        Fof::Exists(inner) => {
+            let (more, body) = inner.get().below_existentials();
+            is_formula(signature, body, binders.saturating_add(1 + more as u64))
+        }
     }
 }
 
@@ -178,8 +184,8 @@ fn has_pairs(formula: &Fof) -> bool
         Fof::And(parts) => have_pairs(parts.as_slice()),
         Fof::Or(parts) => have_pairs(parts.as_slice()),
         Fof::Implies(a, b) => has_pairs(a.get()) && has_pairs(b.get()),
-        Fof::ForAll(body) => has_pairs(body.get()),
-        Fof::Exists(body) => has_pairs(body.get()),
+        Fof::ForAll(inner) => has_pairs(inner.get().below_universals().1),
+        Fof::Exists(inner) => has_pairs(inner.get().below_existentials().1),
     }
 }
 
@@ -213,8 +219,14 @@ fn binders(formula: &Fof) -> u32
         Fof::And(parts) => all_binders(parts.as_slice()),
         Fof::Or(parts) => all_binders(parts.as_slice()),
         Fof::Implies(a, b) => binders(a.get()).saturating_add(binders(b.get())),
-        Fof::ForAll(body) => binders(body.get()).saturating_add(1),
-        Fof::Exists(body) => binders(body.get()).saturating_add(1),
+        Fof::ForAll(inner) => {
+            let (more, body) = inner.get().below_universals();
+            binders(body).saturating_add(more).saturating_add(1)
+        }
+        Fof::Exists(inner) => {
+            let (more, body) = inner.get().below_existentials();
+            binders(body).saturating_add(more).saturating_add(1)
+        }
     }
 }
 

@@ -1,4 +1,4 @@
-ghost use Rattle.fof_models.specs.Laws.{UniversalIsTrueOfEach, ExistentialIsTrueOfSome, EntriesStandAtPlaces, TablesAreFunctions, ModelsAreTables};
+ghost use Rattle.fof_models.specs.Laws.{UniversalIsTrueOfEach, ExistentialIsTrueOfSome, PrefixesAreQuantifiers, PrefixesAreTrueOfTuples, EntriesStandAtPlaces, TablesAreFunctions, ModelsAreTables};
 
 /// A universal formula is true exactly where its body is true of each element.
 pub fn universal_is_true_of_each()
@@ -8,6 +8,17 @@ pub fn universal_is_true_of_each()
 /// An existential formula is true exactly where its body is true of some element.
 pub fn existential_is_true_of_some()
     ensures { ExistentialIsTrueOfSome }
+{}
+
+/// A prefix of one quantifier more is the prefix under one more.
+pub fn prefixes_are_quantifiers()
+    ensures { PrefixesAreQuantifiers }
+{}
+
+/// A formula under a prefix of quantifiers is true exactly where it is true of each tuple of
+/// elements, or of some.
+pub fn prefixes_are_true_of_tuples()
+    ensures { PrefixesAreTrueOfTuples }
 {}
 
 /// The value of a function at a tuple stands in its table at the tuple's place.

@@ -7,10 +7,9 @@ mod formula;
 mod holds;
 mod is_sound;
 mod laws;
+mod prefix;
 mod problem;
 mod structure;
-#[cfg(test)]
-mod tests;
 mod value;
 mod well_formed;
 
@@ -18,7 +17,8 @@ pub use env::FofEnv;
 pub use formula::{Fof, FofTerm, copy_formulas, copy_terms, same_formulas, same_terms};
 pub use is_sound::is_sound_signature;
 pub use laws::{
-    entries_stand_at_places, existential_is_true_of_some, models_are_tables, tables_are_functions,
+    entries_stand_at_places, existential_is_true_of_some, models_are_tables,
+    prefixes_are_quantifiers, prefixes_are_true_of_tuples, tables_are_functions,
     universal_is_true_of_each,
 };
 pub use problem::{

@@ -1,7 +1,8 @@
-use Rattle.std.proofs.Common.{List, map, ap, ◌∙◌}
+use Rattle.std.proofs.Common.{List, ap, ◌∙◌}
 use Rattle.std.proofs.Math.Path.{fun_ext}
-use Rattle.fof_models.specs.declared.problem.FofFormula.{FofFormula}
-use Rattle.enc_marks.specs.Flags.{is_set, number_of, renumbered_by}
+use Rattle.enc_marks.specs.declared.open_formula.OpenFormula.{OpenFormula}
+use Rattle.enc_marks.specs.Closures.{closures}
+use Rattle.enc_marks.specs.Flags.{is_set, number_of}
 use Rattle.enc_marks.specs.Encoded.{is_present}
 use Rattle.enc_marks.specs.Uniform.{uniform}
 use Rattle.enc_marks.proofs.Assembly.{Parts, encoded-parts}
@@ -10,17 +11,15 @@ use Rattle.enc_marks.proofs.encode.encode_uniform.Goals as goal
 pub returns : goal.returns
 returns c =
     let choices = uniform c.args.tagged c.args.guarded in
-    let stated = c.in_ok-stated.stated in
+    let stated = closures c.in_ok-stated.stated in
     let parts : Parts choices c.args.normal.now stated (is_set c.in_ok-occurring.occurring)
     (number_of c.in_ok-numbering.numbering) c.in_ok-formulas.formulas c.in_ok-marked.marked.symbols
     c.in_ok-marked.marked.marks = record {
       stated_is = c.in_ok-stated.ensures;
       occurs_is = fun_ext (λ m. c.in_ok-occurring.ensures m
-          ∙ ap (λ (list : List FofFormula). is_present list m) c.as_slice.ensures);
+          ∙ ap (λ (list : List OpenFormula). is_present (closures list) m) c.as_slice.ensures);
       number_is = fun_ext c.in_ok-numbering.ensures;
-      formulas_are = c.in_ok-formulas.ensures
-          ∙ ap (λ (list : List FofFormula). map (renumbered_by (number_of c.in_ok-numbering.numbering)) list)
-          c.as_slice-2.ensures;
+      formulas_are = c.in_ok-formulas.ensures;
       symbols_are = c.in_ok-marked.ensures.symbols;
       marks_are = c.in_ok-marked.ensures.marks;
     } in

@@ -1,7 +1,8 @@
 use Rattle.std.proofs.Common.{ap, arith}
 use Rattle.fof_models.specs.Sound.{depth}
 use Rattle.fof_models.proofs.Depth.{greatest-more}
-use Rattle.fof_models.proofs.Sound.{depth-true, depth-false, depth-atom, depth-equal, depth-not, depth-and, depth-or, depth-implies, depth-for_all, depth-exists}
+use Rattle.fof_models.proofs.Sound.{depth-true, depth-false, depth-atom, depth-equal, depth-not, depth-and, depth-or, depth-implies}
+use Rattle.fof_models.proofs.PrefixCounts.{universals_depth, existentials_depth}
 use Rattle.fof_models.proofs.formula.+nested.Goals as goal
 
 pub Fof::nested-returns-in-True : goal.Fof::nested-returns-in-True
@@ -61,11 +62,12 @@ Fof::nested-returns-in-ForAll t c =
     record {
       exact = omega (
         arith,
+        c.saturating_add-in-ForAll.ensures,
         c.saturating_add.ensures,
         c.nested-in-ForAll.ensures.exact,
-        ap depth c.get-in-ForAll.ensures,
-        ap depth c.in-ForAll.is,
-        depth-for_all c.in-ForAll.body,
+        universals_depth c.args.self.now c.in-ForAll.inner c.get-in-ForAll.result.now
+            c.below_universals-more.result.1.now c.below_universals-more.result.0 c.in-ForAll.is
+            c.get-in-ForAll.ensures c.below_universals-more.ensures.whole,
       );
     }
 
@@ -74,11 +76,12 @@ Fof::nested-returns-in-Exists t c =
     record {
       exact = omega (
         arith,
+        c.saturating_add-in-Exists-2.ensures,
         c.saturating_add-in-Exists.ensures,
         c.nested-in-Exists.ensures.exact,
-        ap depth c.get-in-Exists.ensures,
-        ap depth c.in-Exists.is,
-        depth-exists c.in-Exists.body,
+        existentials_depth c.args.self.now c.in-Exists.inner c.get-in-Exists.result.now
+            c.below_existentials-more.result.1.now c.below_existentials-more.result.0 c.in-Exists.is
+            c.get-in-Exists.ensures c.below_existentials-more.ensures.whole,
       );
     }
 

@@ -1,6 +1,7 @@
 use Rattle.std.proofs.Common.{ap, arith}
 use Rattle.fof_models.specs.Sound.{binder_count}
-use Rattle.fof_models.proofs.Sound.{binder_count-true, binder_count-false, binder_count-atom, binder_count-equal, binder_count-not, binder_count-and, binder_count-or, binder_count-implies, binder_count-for_all, binder_count-exists}
+use Rattle.fof_models.proofs.Sound.{binder_count-true, binder_count-false, binder_count-atom, binder_count-equal, binder_count-not, binder_count-and, binder_count-or, binder_count-implies}
+use Rattle.fof_models.proofs.PrefixCounts.{universals_binders, existentials_binders}
 use Rattle.fof_models.proofs.is_sound.+binders.Goals as goal
 
 pub binders-returns-in-True : goal.binders-returns-in-True
@@ -51,20 +52,22 @@ pub binders-returns-in-ForAll : goal.binders-returns-in-ForAll
 binders-returns-in-ForAll t c =
     omega (
       arith,
-      ap binder_count c.in-ForAll.is,
-      binder_count-for_all c.in-ForAll.body,
-      ap binder_count c.get-in-ForAll.ensures,
-      c.binders-in-ForAll.ensures,
+      c.saturating_add-in-ForAll-2.ensures,
       c.saturating_add-in-ForAll.ensures,
+      c.binders-in-ForAll.ensures,
+      universals_binders c.args.formula.now c.in-ForAll.inner c.get-in-ForAll.result.now
+          c.below_universals-more.result.1.now c.below_universals-more.result.0 c.in-ForAll.is
+          c.get-in-ForAll.ensures c.below_universals-more.ensures.whole,
     )
 
 pub binders-returns-in-Exists : goal.binders-returns-in-Exists
 binders-returns-in-Exists t c =
     omega (
       arith,
-      ap binder_count c.in-Exists.is,
-      binder_count-exists c.in-Exists.body,
-      ap binder_count c.get-in-Exists.ensures,
-      c.binders-in-Exists.ensures,
+      c.saturating_add-in-Exists-2.ensures,
       c.saturating_add-in-Exists.ensures,
+      c.binders-in-Exists.ensures,
+      existentials_binders c.args.formula.now c.in-Exists.inner c.get-in-Exists.result.now
+          c.below_existentials-more.result.1.now c.below_existentials-more.result.0 c.in-Exists.is
+          c.get-in-Exists.ensures c.below_existentials-more.ensures.whole,
     )

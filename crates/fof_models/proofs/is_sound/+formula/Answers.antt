@@ -1,8 +1,9 @@
-use Rattle.std.proofs.Common.{ap, ◌∙◌, ◌+◌, length}
+use Rattle.std.proofs.Common.{sym, ap, ◌∙◌, ◌+◌, length}
 use Rattle.std.specs.Prelude.{true, slice_get}
 use Rattle.fof_models.specs.Sound.{is_symbol, is_term, are_terms, is_formula, are_formulas}
-use Rattle.fof_models.proofs.Sound.{is_formula-true, is_formula-false, is_formula-atom, is_formula-equal, is_formula-not, is_formula-and, is_formula-or, is_formula-implies, is_formula-for_all, is_formula-exists}
-use Rattle.fof_models.proofs.Tested.{and_then, and_else, Counts-more}
+use Rattle.fof_models.proofs.Sound.{is_formula-true, is_formula-false, is_formula-atom, is_formula-equal, is_formula-not, is_formula-and, is_formula-or, is_formula-implies}
+use Rattle.fof_models.proofs.Tested.{and_then, and_else, Counts-plus}
+use Rattle.fof_models.proofs.PrefixCounts.{universals_formula, existentials_formula}
 use Rattle.fof_models.proofs.is_sound.+formula.Goals as goal
 
 pub is_formula-returns-in-True : goal.is_formula-returns-in-True
@@ -88,13 +89,18 @@ is_formula-returns-else-is_formula t c n counts =
 
 pub is_formula-returns-in-ForAll : goal.is_formula-returns-in-ForAll
 is_formula-returns-in-ForAll t c n counts =
-    let part =
-    c.is_formula-in-ForAll.ensures (n + 1) (Counts-more _ _ n counts c.saturating_add.ensures) in
-    cc (is_formula-for_all c.args.signature.now c.in-ForAll.body n)
+    c.is_formula-in-ForAll.ensures (n + 1 + c.below_universals-more.result.0)
+    (Counts-plus _ _ n c.below_universals-more.result.0 counts c.saturating_add.ensures)
+    ∙ sym (universals_formula c.args.formula.now c.in-ForAll.inner c.get-in-ForAll.result.now
+    c.below_universals-more.result.1.now c.below_universals-more.result.0 c.in-ForAll.is
+    c.get-in-ForAll.ensures c.below_universals-more.ensures.whole
+    c.args.signature.now n)
 
 pub is_formula-returns-in-Exists : goal.is_formula-returns-in-Exists
 is_formula-returns-in-Exists t c n counts =
-    let part =
-    c.is_formula-in-Exists.ensures (n + 1)
-    (Counts-more _ _ n counts c.saturating_add-in-Exists.ensures) in
-    cc (is_formula-exists c.args.signature.now c.in-Exists.body n)
+    c.is_formula-in-Exists.ensures (n + 1 + c.below_existentials-more.result.0)
+    (Counts-plus _ _ n c.below_existentials-more.result.0 counts c.saturating_add-in-Exists.ensures)
+    ∙ sym (existentials_formula c.args.formula.now c.in-Exists.inner c.get-in-Exists.result.now
+    c.below_existentials-more.result.1.now c.below_existentials-more.result.0 c.in-Exists.is
+    c.get-in-Exists.ensures c.below_existentials-more.ensures.whole
+    c.args.signature.now n)

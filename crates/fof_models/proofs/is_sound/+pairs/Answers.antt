@@ -1,6 +1,8 @@
 use Rattle.fof_models.specs.Sound.{has_pairs}
-use Rattle.fof_models.proofs.Sound.{has_pairs-true, has_pairs-false, has_pairs-atom, has_pairs-equal, has_pairs-not, has_pairs-and, has_pairs-or, has_pairs-implies, has_pairs-for_all, has_pairs-exists}
+use Rattle.fof_models.proofs.Sound.{has_pairs-true, has_pairs-false, has_pairs-atom, has_pairs-equal, has_pairs-not, has_pairs-and, has_pairs-or, has_pairs-implies}
 use Rattle.fof_models.proofs.Tested.{and_then, and_else}
+use Rattle.std.proofs.Common.{sym, ◌∙◌}
+use Rattle.fof_models.proofs.PrefixCounts.{universals_pairs, existentials_pairs}
 use Rattle.fof_models.proofs.is_sound.+pairs.Goals as goal
 
 pub has_pairs-returns-in-True : goal.has_pairs-returns-in-True
@@ -37,7 +39,15 @@ has_pairs-returns-else-has_pairs t c =
     (cc) c.if-has_pairs.false
 
 pub has_pairs-returns-in-ForAll : goal.has_pairs-returns-in-ForAll
-has_pairs-returns-in-ForAll t c = cc (has_pairs-for_all c.in-ForAll.body)
+has_pairs-returns-in-ForAll t c =
+    c.has_pairs-in-ForAll.ensures
+    ∙ sym (universals_pairs c.args.formula.now c.in-ForAll.inner c.get-in-ForAll.result.now
+    c.below_universals.result.1.now c.below_universals.result.0 c.in-ForAll.is
+    c.get-in-ForAll.ensures c.below_universals.ensures.whole)
 
 pub has_pairs-returns-in-Exists : goal.has_pairs-returns-in-Exists
-has_pairs-returns-in-Exists t c = cc (has_pairs-exists c.in-Exists.body)
+has_pairs-returns-in-Exists t c =
+    c.has_pairs-in-Exists.ensures
+    ∙ sym (existentials_pairs c.args.formula.now c.in-Exists.inner c.get-in-Exists.result.now
+    c.below_existentials.result.1.now c.below_existentials.result.0 c.in-Exists.is
+    c.get-in-Exists.ensures c.below_existentials.ensures.whole)

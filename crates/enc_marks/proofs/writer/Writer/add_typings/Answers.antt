@@ -2,6 +2,7 @@ use Rattle.std.proofs.Common.{◌≡◌, ◌+◌, ◌++◌, List, take, length, 
 use Rattle.std.proofs.lemmas.List.{take_more, length-take}
 use Rattle.tf_core.specs.declared.signature.Symbol.{Symbol}
 use Rattle.fof_models.specs.declared.problem.FofFormula.{FofFormula}
+use Rattle.enc_marks.specs.Closures.{closures}
 use Rattle.enc_marks.specs.Encoded as specs
 use Rattle.enc_marks.specs.Writing.{choices_in}
 use Rattle.enc_marks.proofs.TypingAxioms.{typing_axioms-push}
@@ -14,7 +15,7 @@ loop-f-preserved c =
     let symbols = c.as_slice-symbols.result.now in
     let f = c.loop-f.f in
     let symbol = c.index-symbols-f.result in
-    let before = c.args.made.now in
+    let before = closures c.args.made.now in
     let front = specs.typing_axioms choices normal 0 (take f symbols) in
     let at : f ≡ 0 + length (take f symbols) = omega (arith, length-take f symbols, c.loop-f-test.true) in
     c.in_ok-add_typing.ensures.exact

@@ -1,6 +1,6 @@
 use Rattle.std.proofs.Common.{◌≡◌, take, true, false}
-use Rattle.enc_base.specs.Quantifiers.{all_below, some_below}
-use Rattle.fof_models.specs.Evaluation.{true_with, all_true, some_true}
+use Rattle.fof_models.specs.Evaluation.{all_true, some_true}
+use Rattle.fof_models.proofs.Searching.{IsSearching, left}
 use Rattle.fof_models.proofs.structure.Structure.+holds.Given as goal
 
 abbrev pub invariant-all_hold-loop-part : goal.invariant-all_hold-loop-part
@@ -15,14 +15,11 @@ invariant-some_holds-loop-part l = record {
   so_far : some_true l.self l.initial.env.items (take l.part-index l.parts) ≡ false;
 }
 
-abbrev pub invariant-holds_of_each-loop-element : goal.invariant-holds_of_each-loop-element
-invariant-holds_of_each-loop-element l = record {
-  kept : l.env ≡ l.initial.env;
-  so_far : all_below l.element (true_with l.self l.initial.env.items l.body) ≡ true;
+abbrev pub invariant-is_each-loop-env : goal.invariant-is_each-loop-env
+invariant-is_each-loop-env l = record {
+  room : l.env.room ≡ l.fn.env.room;
+  searching : IsSearching l.self l.body l.value l.count l.fn.env.items l.env.items;
 }
 
-abbrev pub invariant-holds_of_some-loop-element : goal.invariant-holds_of_some-loop-element
-invariant-holds_of_some-loop-element l = record {
-  kept : l.env ≡ l.initial.env;
-  so_far : some_below l.element (true_with l.self l.initial.env.items l.body) ≡ false;
-}
+abbrev pub decreases-is_each-loop-env : goal.decreases-is_each-loop-env
+decreases-is_each-loop-env l = left l.self.size l.count l.fn.env.items l.env.items

@@ -1,0 +1,10 @@
+use Rattle.std.proofs.Common.{◌≡◌, ◌≤◌}
+use Rattle.fof_models.specs.declared.formula.Fof.{size-Fof}
+use Rattle.fof_models.specs.Prefix.{under_existentials}
+use Rattle.fof_models.proofs.formula.Fof.below_existentials.Given as goal
+
+abbrev pub invariant-loop-count : goal.invariant-loop-count
+invariant-loop-count l = record {
+  whole : l.self ≡ under_existentials l.count l.below;
+  no_deeper : size-Fof l.below ≤ size-Fof l.self;
+}
