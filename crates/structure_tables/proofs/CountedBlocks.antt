@@ -7,6 +7,7 @@ use Rattle.enc_base.specs.Tables.{EachBelow, sum_below, tuple_count, place, tota
 use Rattle.enc_base.proofs.Tables.{place_within, begins_within}
 use Rattle.tf_models.specs.Evaluation.{in_64_bits}
 use Rattle.structure_tables.specs.TupleOrder.{IsNext, IsLast}
+use Rattle.structure_tables.proofs.CountedAlike.{alike_products, alike_itself, product_enough}
 
 -- numbers with one remainder and one quotient
 
@@ -160,8 +161,23 @@ module _ (bounds : List ℕ) (lengths : List ℕ → ℕ) where
             begins-next bounds values after lengths below next.below next.place_is,
           )
 
-      -- the count is too large already
-      pub counted_enough : in_64_bits (entries + block) ≡ 2 ^ 64 - 1 →
-          in_64_bits (entries + block) ≡ in_64_bits (total bounds lengths)
-      counted_enough full =
-          omega (arith, full, so_far, is, begins_within bounds values lengths below)
+      -- a factor times the count
+
+      pub product_last : (factor : ℕ) → IsLast bounds values →
+          in_64_bits (factor * in_64_bits (entries + block)) ≡ in_64_bits (factor * total bounds lengths)
+      product_last factor last =
+          alike_products factor factor (in_64_bits (entries + block)) (total bounds lengths) refl
+          (ap in_64_bits (counted_last last) ∙ alike_itself (total bounds lengths))
+
+      -- the product is too large already
+      pub product_full : (factor : ℕ) →
+          in_64_bits (factor * in_64_bits (entries + block)) ≡ 2 ^ 64 - 1 →
+          in_64_bits (factor * in_64_bits (entries + block)) ≡ in_64_bits (factor * total bounds lengths)
+      product_full factor full =
+          let exact : ℕ = begins bounds lengths values + lengths values in
+          let same : in_64_bits (entries + block) ≡ in_64_bits exact = omega (arith, so_far, is) in
+          let kept : in_64_bits (factor * in_64_bits (entries + block))
+          ≡ in_64_bits (factor * in_64_bits exact) = ap (λ n. in_64_bits (factor * n)) same in
+          kept
+          ∙ product_enough factor exact (total bounds lengths)
+          (begins_within bounds values lengths below) (sym kept ∙ full)

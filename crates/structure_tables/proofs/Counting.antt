@@ -6,7 +6,7 @@ use Rattle.enc_base.proofs.Tables.{tuple_count-more, tuple_count-grows, tuple_co
 use Rattle.tf_models.specs.Evaluation.{in_64_bits}
 use Rattle.tf_models.proofs.SymbolBlocks.{in_64_bits-times}
 use Rattle.tf_models.proofs.Placing.{tuple_count-next}
-use Rattle.std.proofs.lemmas.List.Sums.{sum_by_more}
+use Rattle.std.proofs.lemmas.List.Sums.{sum_by_more, sum_by-take-le}
 
 pub in_64_bits-plus : (a b : ℕ) → in_64_bits (in_64_bits a + in_64_bits b) ≡ in_64_bits (a + b)
 in_64_bits-plus a b = omega arith
@@ -70,11 +70,17 @@ factor_more bounds i bound tuples within is so_far =
     ∙ ap (λ n. in_64_bits (tuple_count (take i bounds) * n)) is
     ∙ ap in_64_bits (sym (tuple_count-next bounds i within))
 
--- a count more
-pub count_more : {A : Type 0} (f : A → ℕ) (items : List A) (i count entries : ℕ) (item : A) →
-    i < length items → item ≡ get_or items i item → count ≡ in_64_bits (f item) →
-    entries ≡ in_64_bits (sum_by f (take i items)) →
-    in_64_bits (entries + count) ≡ in_64_bits (sum_by f (take (i + 1) items))
-count_more f items i count entries item within is same so_far =
-    let whole = sum_by_more f items i item within in
-    omega (arith, so_far, same, ap f is, whole)
+-- counts added to a count before them
+
+module _ {A : Type 0} (f : A → ℕ) (items : List A) (i before : ℕ) where
+  pub counted_more : (count entries : ℕ) (item : A) → i < length items → item ≡ get_or items i item →
+      count ≡ in_64_bits (f item) → entries ≡ in_64_bits (before + sum_by f (take i items)) →
+      in_64_bits (entries + count) ≡ in_64_bits (before + sum_by f (take (i + 1) items))
+  counted_more count entries item within is same so_far =
+      let whole = sum_by_more f items i item within in
+      omega (arith, so_far, same, ap f is, whole)
+
+  -- the count is too large already
+  pub counted_full : (entries : ℕ) → entries ≡ in_64_bits (before + sum_by f (take i items)) →
+      entries ≡ 2 ^ 64 - 1 → entries ≡ in_64_bits (before + sum_by f items)
+  counted_full entries so_far full = omega (arith, so_far, full, sum_by-take-le f items i)

@@ -72,9 +72,3 @@ pub EachBelow-counted : (count bound : ℕ) (values : List ℕ) → EachBelow (r
     EachBelow (replicate (length values) bound) values
 EachBelow-counted count bound values below =
     subst (λ n. EachBelow (replicate n bound) values) (EachBelow-length count bound values below) below
-
--- the size of a member, as code reads it
-pub size_of-member : (s : Typed) (sizes : List ℕ) (member other : ℕ) → sizes ≡ s.sizes →
-    member ≡ other → get_or sizes member 0 ≡ size_of s other
-size_of-member s sizes member other same is =
-    ap (λ ss. get_or ss member 0) same ∙ ap (size_of s) is

@@ -1,9 +1,73 @@
 -- Sums over tuples: of one summand, of equal summands, and of products.
 use Rattle.std.specs.Prelude.{ℕ, zero, suc, ◌≡◌, ◌<◌, ◌≤◌, ◌+◌, ◌*◌, List, [], ◌∷◌, replicate}
-use Rattle.std.proofs.Common.{refl, sym, ap, ◌∙◌, arith, mul_comm}
-use Rattle.std.proofs.Math.Path.{fun_ext}
+use Rattle.std.proofs.Common.{refl, sym, ap, ◌∙◌, arith}
 use Rattle.enc_base.specs.Tables.{EachBelow, sum_below, tuple_count, total}
 use Rattle.enc_base.proofs.Tables.{sum_below-same}
+
+-- where summands are equal
+pub total-each : (bounds : List ℕ) (f g : List ℕ → ℕ) →
+    ((values : List ℕ) → EachBelow bounds values → f values ≡ g values) →
+    total bounds f ≡ total bounds g
+total-each [] f g same = same [] tt
+total-each (bound ∷ bounds) f g same =
+    sum_below-same bound (λ value. total bounds (λ values. f (value ∷ values)))
+    (λ value. total bounds (λ values. g (value ∷ values)))
+    (λ value within. total-each bounds (λ values. f (value ∷ values)) (λ values. g (value ∷ values))
+    (λ values below. same (value ∷ values) (within, below)))
+
+pub total-same : (bounds : List ℕ) (f g : List ℕ → ℕ) → ((values : List ℕ) → f values ≡ g values) →
+    total bounds f ≡ total bounds g
+total-same bounds f g same = total-each bounds f g (λ values _. same values)
+
+-- sums of sums
+
+sum_below-plus : (bound : ℕ) (f g : ℕ → ℕ) →
+    sum_below bound (λ n. f n + g n) ≡ sum_below bound f + sum_below bound g
+sum_below-plus zero f g = refl
+sum_below-plus (suc bound) f g = omega (arith, sum_below-plus bound f g)
+
+sum_below-zeros : (bound : ℕ) → sum_below bound (λ _. 0) ≡ 0
+sum_below-zeros zero = refl
+sum_below-zeros (suc bound) = omega (arith, sum_below-zeros bound)
+
+sum_below-swap : (bound other : ℕ) (f : ℕ → ℕ → ℕ) →
+    sum_below bound (λ n. sum_below other (λ m. f n m))
+    ≡ sum_below other (λ m. sum_below bound (λ n. f n m))
+sum_below-swap zero other f = sym (sum_below-zeros other)
+sum_below-swap (suc bound) other f =
+    ap (λ k. k + sum_below other (f bound)) (sum_below-swap bound other f)
+    ∙ sym (sum_below-plus other (λ m. sum_below bound (λ n. f n m)) (f bound))
+
+pub total-swap : (bound : ℕ) (bounds : List ℕ) (f : ℕ → List ℕ → ℕ) →
+    sum_below bound (λ n. total bounds (f n)) ≡ total bounds (λ values. sum_below bound (λ n. f n values))
+total-swap bound [] f = refl
+total-swap bound (first ∷ bounds) f =
+    sum_below-swap bound first (λ n value. total bounds (λ values. f n (value ∷ values)))
+    ∙ sum_below-same first
+    (λ value. sum_below bound (λ n. total bounds (λ values. f n (value ∷ values))))
+    (λ value. total bounds (λ values. sum_below bound (λ n. f n (value ∷ values))))
+    (λ value _. total-swap bound bounds (λ n values. f n (value ∷ values)))
+
+-- a factor
+
+pub sum_below-factor : (bound c : ℕ) (f : ℕ → ℕ) →
+    sum_below bound (λ n. c * f n) ≡ c * sum_below bound f
+sum_below-factor zero c f = omega arith
+sum_below-factor (suc bound) c f =
+    ap (λ n. n + c * f bound) (sum_below-factor bound c f)
+    ∙ sym (distributes c (sum_below bound f) (f bound))
+  where
+    distributes : (a b d : ℕ) → a * (b + d) ≡ a * b + a * d
+    distributes a b d = grind arith
+
+pub total-factor : (bounds : List ℕ) (c : ℕ) (f : List ℕ → ℕ) →
+    total bounds (λ values. c * f values) ≡ c * total bounds f
+total-factor [] c f = refl
+total-factor (bound ∷ bounds) c f =
+    sum_below-same bound (λ value. total bounds (λ values. c * f (value ∷ values)))
+    (λ value. c * total bounds (λ values. f (value ∷ values)))
+    (λ value _. total-factor bounds c (λ values. f (value ∷ values)))
+    ∙ sum_below-factor bound c (λ value. total bounds (λ values. f (value ∷ values)))
 
 -- equal summands
 
@@ -20,10 +84,6 @@ total-const (bound ∷ bounds) c =
   where
     times : (a b d : ℕ) → a * (b * d) ≡ a * b * d
     times a b d = grind arith
-
-pub total-same : (bounds : List ℕ) (f g : List ℕ → ℕ) → ((values : List ℕ) → f values ≡ g values) →
-    total bounds f ≡ total bounds g
-total-same bounds f g same = ap (total bounds) (fun_ext same)
 
 -- one tuple alone
 
@@ -76,68 +136,3 @@ total-grows (bound ∷ bounds) lengths each =
     (λ value. total bounds (λ values. lengths (value ∷ values)))
     (λ value within. total-grows bounds (λ values. lengths (value ∷ values))
     (λ values below. each (value ∷ values) (within, below)))
-
--- products
-
-sum_below-times : (bound c : ℕ) (f : ℕ → ℕ) → sum_below bound (λ n. f n * c) ≡ sum_below bound f * c
-sum_below-times zero c f = omega arith
-sum_below-times (suc bound) c f =
-    ap (λ n. n + f bound * c) (sum_below-times bound c f)
-    ∙ sym (distributes (sum_below bound f) (f bound) c)
-  where
-    distributes : (a b d : ℕ) → (a + b) * d ≡ a * d + b * d
-    distributes a b d = grind arith
-
--- a function that no first part changes
-abbrev pub IsFree : (List ℕ → ℕ) → Type 0
-IsFree f = (value other : ℕ) (values : List ℕ) → f (value ∷ values) ≡ f (other ∷ values)
-
--- the sum over one part more, where the sums over the others are products
-module _ (bound : ℕ) (firsts seconds boths : List ℕ) (f g : List ℕ → ℕ)
-    (rest : (value : ℕ) →
-    total boths (λ values. f (value ∷ values) * g (value ∷ values))
-    ≡ total firsts (λ values. f (value ∷ values)) * total seconds (λ values. g (value ∷ values)))
-  where
-    abbrev f_at : ℕ → ℕ
-    f_at value = total firsts (λ values. f (value ∷ values))
-
-    abbrev g_at : ℕ → ℕ
-    g_at value = total seconds (λ values. g (value ∷ values))
-
-    abbrev both_at : ℕ → ℕ
-    both_at value = total boths (λ values. f (value ∷ values) * g (value ∷ values))
-
-    alone : (h : ℕ → ℕ) → h 0 ≡ sum_below 1 h
-    alone h = omega arith
-
-    pub total-first : IsFree g →
-        total (bound ∷ boths) (λ values. f values * g values)
-        ≡ total (bound ∷ firsts) f * total (1 ∷ seconds) g
-    total-first free =
-        sum_below-same bound both_at (λ value. f_at value * g_at 0)
-        (λ value _. rest value
-        ∙ ap (λ n. f_at value * n)
-        (total-same seconds (λ values. g (value ∷ values)) (λ values. g (0 ∷ values)) (free value 0)))
-        ∙ sum_below-times bound (g_at 0) f_at
-        ∙ ap (λ n. sum_below bound f_at * n) (alone g_at)
-
-    pub total-second : IsFree f →
-        total (bound ∷ boths) (λ values. f values * g values)
-        ≡ total (1 ∷ firsts) f * total (bound ∷ seconds) g
-    total-second free =
-        sum_below-same bound both_at (λ value. g_at value * f_at 0)
-        (λ value _. rest value ∙ mul_comm (f_at value) (g_at value)
-        ∙ ap (λ n. g_at value * n)
-        (total-same firsts (λ values. f (value ∷ values)) (λ values. f (0 ∷ values)) (free value 0)))
-        ∙ sum_below-times bound (f_at 0) g_at
-        ∙ mul_comm (sum_below bound g_at) (f_at 0)
-        ∙ ap (λ n. n * sum_below bound g_at) (alone f_at)
-
-    pub total-neither :
-        total (1 ∷ boths) (λ values. f values * g values)
-        ≡ total (1 ∷ firsts) f * total (1 ∷ seconds) g
-    total-neither =
-        sym (alone both_at)
-        ∙ rest 0
-        ∙ ap (λ n. n * g_at 0) (alone f_at)
-        ∙ ap (λ n. sum_below 1 f_at * n) (alone g_at)

@@ -1,5 +1,5 @@
 -- Tables that are made an entry, or a table, at a time.
-use Rattle.std.specs.Prelude.{ℕ, zero, suc, ◌≡◌, ◌<◌, ◌≤◌, ◌+◌, ◌-◌, List, [], ◌∷◌, ◌++◌, length, replicate, take, drop, get_or}
+use Rattle.std.specs.Prelude.{ℕ, zero, suc, ◌≡◌, ◌<◌, ◌≤◌, ◌+◌, ◌-◌, List, [], ◌∷◌, ◌++◌, length, replicate, take, drop, get_or, slice_index}
 use Rattle.std.proofs.Common.{refl, sym, ap, subst, ◌∙◌, arith, append_assoc}
 use Rattle.std.proofs.lemmas.List.{take_more, take_all}
 use Rattle.std.proofs.Math.Seq.{take-append_seam}
@@ -9,6 +9,11 @@ use Rattle.structure_tables.specs.TupleOrder.{IsNext, IsLast}
 use Rattle.structure_tables.proofs.TupleOrder.{place-zeros}
 
 -- the first tuple
+
+pub zeros_at : (count i : ℕ) → slice_index (replicate count 0) i ≡ 0
+zeros_at zero i = refl
+zeros_at (suc count) zero = refl
+zeros_at (suc count) (suc i) = zeros_at count i
 
 pub zeros_below : (count bound : ℕ) → 0 < bound →
     EachBelow (replicate count bound) (replicate (length (replicate count bound)) 0)

@@ -45,7 +45,7 @@ module _ (g : Signature) (parameters : ℕ) where
         subst (AreParameters parameters) (sym (variables-apply c types))
         (all_below types formed)
 
-    all_below : (types : List Ty) → AreTypes g parameters types →
+    pub all_below : (types : List Ty) → AreTypes g parameters types →
         AreParameters parameters (flat_map variables types)
     all_below types no_types = All-nil (λ variable. variable < parameters)
     all_below types (more_types ty others formed rest) =
@@ -67,12 +67,12 @@ module _ (g : Signature) (parameters : ℕ) where
 -- the value of a type under members that agree at its variables
 
 module _ (P : ℕ → Type 0) (xs ys : List ℕ) (each : All P (xs ++ ys)) where
-  All-left : All P xs
+  pub All-left : All P xs
   All-left k d within =
       subst P (get_or_append_left xs ys d k within)
       (each k d (omega (arith, within, length-append xs ys)))
 
-  All-right : All P ys
+  pub All-right : All P ys
   All-right k d within =
       subst P (get_or-append-add xs ys k d)
       (each (length xs + k) d (omega (arith, within, length-append xs ys)))

@@ -1,5 +1,5 @@
 -- Typed structures of functions and of tables are the same, and so are their models.
-use Rattle.std.specs.Prelude.{ℕ, ◌≡◌, List, replicate, slice_get, Some}
+use Rattle.std.specs.Prelude.{ℕ, ◌≡◌, ◌+◌, List, length, map, replicate, slice_get, sum, Some}
 use Rattle.enc_base.specs.Tables.{EachBelow}
 use Rattle.tf_core.specs.declared.signature.Constructor.{Constructor}
 use Rattle.tf_core.specs.declared.signature.Symbol.{Symbol}
@@ -9,6 +9,10 @@ use Rattle.tf_core.specs.Typing.{IsSignature, IsNormal}
 use Rattle.tf_core.specs.Structures.{Typed, member_count, AreArguments, IsStructure}
 use Rattle.tf_core.specs.Models.{IsNormalModel}
 use Rattle.tf_core.specs.TypedTables.{reading, IsWellFormed, AreNormalModel}
+use Rattle.fof_models.specs.declared.problem.FofSymbol.{FofSymbol}
+use Rattle.fof_models.specs.Structures.{Untyped}
+use Rattle.fof_models.specs.Tabled as untyped
+use Rattle.structure_tables.specs.EntryCounts.{typed_count, untyped_count}
 use Rattle.structure_tables.specs.TypedTabled.{tabled}
 
 -- Functions that fit a signature are the reading of their tables, which are well formed.
@@ -29,3 +33,13 @@ abbrev pub NormalModelsAreTabled : Type 0
 NormalModelsAreTabled =
     (normal : Normal) (s : Typed) → IsNormal normal → IsNormalModel normal s →
     AreNormalModel normal (tabled normal.signature s)
+
+-- What is counted of a structure is the sum of its sizes, or its size, and the lengths of all tables.
+pub record CountsAreLengths : Type 0 where
+  pub typed : (g : Signature) (s : Typed) →
+      typed_count g s
+      ≡ sum (tabled g s).sizes + sum (map length (tabled g s).constructors)
+      + sum (map length (tabled g s).symbols)
+  pub untyped : (signature : List FofSymbol) (s : Untyped) →
+      untyped_count s.size signature
+      ≡ (untyped.tabled signature s).size + sum (map length (untyped.tabled signature s).tables)

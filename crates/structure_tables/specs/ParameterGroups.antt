@@ -1,6 +1,6 @@
 -- Groups of a symbol's parameters: those that stand in one argument type are of one group. So the
 -- entries of a symbol can be counted group by group.
-use Rattle.std.specs.Prelude.{ℕ, ◌≡◌, ◌<◌, Bool, List, [], ◌∷◌, map, length, cond, slice_index, flat_map}
+use Rattle.std.specs.Prelude.{ℕ, ◌≡◌, ◌<◌, Bool, List, [], ◌∷◌, map, length, cond, eqb, ltb, min, false, slice_index, flat_map}
 use Rattle.std.specs.List.{All}
 use Rattle.enc_base.specs.Tables.{tuple_count, total}
 use Rattle.tf_core.specs.declared.ty.Ty.{Ty}
@@ -8,7 +8,9 @@ use Rattle.tf_core.specs.declared.ty.Ty.TheOpen.{Ty-F}
 use Rattle.tf_core.specs.declared.ty.Ty.TheOpen as layer
 use Rattle.tf_core.specs.declared.ty.Ty.TheFolds.{fold-Ty}
 use Rattle.tf_core.specs.declared.signature.Symbol.{Symbol}
-use Rattle.tf_core.specs.Structures.{Typed, member_count, size_of, member_of}
+use Rattle.tf_core.specs.Structures.{Typed, member_count}
+use Rattle.structure_tables.specs.ParameterSets.{bounds_of, uses_of}
+use Rattle.structure_tables.specs.TypeWays.{sizes_of_type}
 
 -- the variables of a type, from the left
 
@@ -58,20 +60,35 @@ pub record AreGroups (symbol : Symbol) (parameters arguments : List ℕ) : Type 
   pub together : All (λ ty. AreTogether parameters (variables ty)) symbol.arguments
   pub found : arguments ≡ map (group_of_type parameters) symbol.arguments
 
--- The groups inside a set have members for their parameters, and sizes for their argument types;
--- outside it each parameter has the first member, and each argument type the size 1.
+-- how often each parameter occurs in argument types, more often than twice being as twice
+pub record AreUses (symbol : Symbol) (uses : List ℕ) : Type 0 where
+  pub long : length uses ≡ symbol.parameters
+  pub are : (i : ℕ) → i < symbol.parameters →
+      slice_index uses i ≡ min (uses_of (flat_map variables symbol.arguments) i) 2
 
-abbrev pub bounds_inside : ℕ → List ℕ → (ℕ → Bool) → List ℕ
-bounds_inside members groups inside = map (λ group. cond (inside group) members 1) groups
+-- a parameter that occurs more than once is kept: it has one member at a time
+abbrev pub is_kept : List ℕ → ℕ → Bool
+is_kept uses i = ltb 1 (slice_index uses i)
 
-abbrev pub sizes_inside : Typed → List Ty → List ℕ → (ℕ → Bool) → List ℕ → List ℕ
-sizes_inside s arguments groups inside members =
+-- a parameter that doesn't occur
+abbrev pub is_unused : List ℕ → ℕ → Bool
+is_unused uses i = eqb (slice_index uses i) 0
+
+-- The groups inside a set have members for their kept parameters, and the sizes that their argument
+-- types have together under these; outside it each parameter has the first member, and each argument
+-- type the size 1.
+
+abbrev pub kept_inside : (ℕ → Bool) → List ℕ → (ℕ → Bool) → ℕ → Bool
+kept_inside kept groups inside i = cond (kept i) (inside (slice_index groups i)) false
+
+abbrev pub sizes_inside : Typed → (ℕ → Bool) → List Ty → List ℕ → (ℕ → Bool) → List ℕ → List ℕ
+sizes_inside s kept arguments groups inside members =
     map
-    (λ ty. cond (inside (group_of_type groups ty)) (size_of s (member_of s members ty)) 1)
+    (λ ty. cond (inside (group_of_type groups ty)) (sizes_of_type s kept members ty) 1)
     arguments
 
 -- the entries of a symbol, as far as the groups inside a set give them
-abbrev pub count_inside : Typed → Symbol → List ℕ → (ℕ → Bool) → ℕ
-count_inside s symbol groups inside =
-    total (bounds_inside (member_count s) groups inside)
-    (λ members. tuple_count (sizes_inside s symbol.arguments groups inside members))
+abbrev pub count_inside : Typed → (ℕ → Bool) → Symbol → List ℕ → (ℕ → Bool) → ℕ
+count_inside s kept symbol groups inside =
+    total (bounds_of (member_count s) (kept_inside kept groups inside) symbol.parameters)
+    (λ members. tuple_count (sizes_inside s kept symbol.arguments groups inside members))

@@ -5,8 +5,9 @@ ghost use Rattle.tf_core.specs.Structures.{argument_sizes, member_count, AreArgu
 ghost use Rattle.structure_tables.specs.Sources.{AreArgumentsFor, IsSized};
 ghost use Rattle.structure_tables.specs.TypedTabled.{symbol_block, symbol_table};
 
-use crate::tuples::{TupleFunction, append_table, next_tuple, repeated};
+use crate::tuples::{TupleFunction, append_table, next_tuple, repeated, with_room};
 use crate::typed::TypedSource;
+use crate::typed_counts::entries_of_symbol;
 use crate::types::member_of_type;
 use enc_base::{List, NoMemory};
 use std::alloc::Global;
@@ -28,7 +29,8 @@ pub(crate) fn table_of_symbol<S: TypedSource>(
 {
     let bounds = repeated(alloc, sizes.len() as u32, symbol.parameters as usize)?;
     let mut members = repeated(alloc, 0, symbol.parameters as usize)?;
-    let mut entries = List::new(alloc);
+    let length = entries_of_symbol(alloc, source, sizes, symbol)?;
+    let mut entries = with_room(alloc, length)?;
     loop {
         append_block(
             alloc,

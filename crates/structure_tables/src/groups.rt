@@ -1,30 +1,37 @@
-ghost use Rattle.std.specs.Prelude.{◌≡◌, ◌<◌, ◌++◌, ◌^◌, cond, eqb, map, length, IfOk, OnOk};
+ghost use Rattle.std.specs.Prelude.{◌≡◌, ◌<◌, ◌≤◌, ◌+◌, ◌++◌, ◌^◌, ℕ, cond, eqb, map, length, min, slice_index, IfOk, OnOk};
+ghost use Rattle.structure_tables.specs.ParameterSets.{uses_of};
 ghost use Rattle.std.specs.List.{All, flat_map};
-ghost use Rattle.structure_tables.specs.ParameterGroups.{variables, group_of, group_of_type, AreParameters, AreJoined, AreGroups};
+ghost use Rattle.structure_tables.specs.ParameterGroups.{variables, group_of, group_of_type, AreParameters, AreJoined, AreGroups, AreUses};
 
+use crate::tuples::repeated;
 use enc_base::{List, NoMemory};
 use std::alloc::Global;
 use tf_core::{Symbol, Ty};
 
-/// Groups of a symbol's parameters and of its argument types, by their numbers.
+/// Groups of a symbol's parameters and of its argument types, by their numbers, and how often each
+/// parameter occurs, more often than twice being as twice.
 #[derive(Drop)]
 pub(crate) struct Groups {
     pub parameters: List<u32>,
     pub arguments: List<u32>,
+    pub uses: List<u32>,
 }
 
 /// Groups of which the parameters that stand in one argument type are together, and as few others
 /// as can be.
 pub(crate) fn groups_of(alloc: Global, symbol: &Symbol) -> Result<Groups, NoMemory>
     requires { All (λ ty. AreParameters symbol.now.parameters (variables ty)) symbol.now.arguments }
-    ensures { IfOk result (λ groups. AreGroups symbol.now groups.parameters groups.arguments) }
+    ensures groups { IfOk result (λ groups. AreGroups symbol.now groups.parameters groups.arguments) }
+    ensures uses { IfOk result (λ groups. AreUses symbol.now groups.uses) }
 {
     let parameters = groups_of_parameters(alloc, symbol)?;
     let types = symbol.arguments.as_slice();
     let arguments = groups_of_types(alloc, types, parameters.as_slice())?;
+    let uses = uses_of_parameters(alloc, symbol)?;
     Ok(Groups {
         parameters,
         arguments,
+        uses,
     })
 }
 
@@ -54,6 +61,38 @@ fn groups_of_types(alloc: Global, types: &[Ty], groups: &[u32]) -> Result<List<u
         found.push(group_of(groups, variables.as_slice()))?;
     }
     Ok(found)
+}
+
+// how often each parameter occurs
+fn uses_of_parameters(alloc: Global, symbol: &Symbol) -> Result<List<u32>, NoMemory>
+    requires { All (λ ty. AreParameters symbol.now.parameters (variables ty)) symbol.now.arguments }
+    ensures { IfOk result (λ uses. AreUses symbol.now uses) }
+{
+    let mut uses = repeated(alloc, 0, symbol.parameters as usize)?;
+    for ty in symbol.arguments.as_slice() {
+        let variables = variables_of(alloc, ty)?;
+        add_uses(&mut uses, variables.as_slice());
+    }
+    Ok(List::from_vec(uses))
+}
+
+// counts variables as used once more
+fn add_uses(uses: &mut [u32], variables: &[u32])
+    requires few { (i : ℕ) → i < length uses.old → slice_index uses.old i ≤ 2 }
+    requires parameters { AreParameters (length uses.old) variables.now }
+    ensures { (i : ℕ) → i < length uses.old → slice_index uses.new i ≡ min (slice_index uses.old i + uses_of variables.now i) 2 }
+{
+    for variable in variables {
+        let place = *variable as usize;
+        uses[place] = once_more(uses[place]);
+    }
+}
+
+// a use more, more than two being as two
+fn once_more(uses: u32) -> u32
+    ensures { result ≡ min (uses + 1) 2 }
+{
+    if uses == 0 { 1 } else { 2 }
 }
 
 // each parameter a group of its own

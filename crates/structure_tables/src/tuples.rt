@@ -1,7 +1,8 @@
-ghost use Rattle.std.specs.Prelude.{◌≡◌, ◌<◌, ◌++◌, ℕ, List, true, false, length, replicate, OnOk, IfOk};
+ghost use Rattle.std.specs.Prelude.{◌≡◌, ◌<◌, ◌++◌, ℕ, List, [], true, false, length, replicate, OnOk, IfOk};
 ghost use Rattle.enc_base.specs.Tables.{EachBelow, table};
 ghost use Rattle.structure_tables.specs.TupleOrder.{IsNext, IsLast};
 
+use crate::counts::count_tuples;
 use enc_base::{List, NoMemory};
 use std::alloc::Global;
 
@@ -30,9 +31,19 @@ pub(crate) fn table_of<F: TupleFunction>(
     ensures { IfOk result (λ entries. entries ≡ table (replicate count bound) (F.gives function.now)) }
 {
     let bounds = repeated(alloc, bound, count as usize)?;
-    let mut entries = List::new(alloc);
+    let mut entries = with_room(alloc, count_tuples(bound as u64, count))?;
     append_table(alloc, &mut entries, bounds.as_slice(), function)?;
     Ok(entries)
+}
+
+/// An empty list with room for so many numbers.
+pub(crate) fn with_room(alloc: Global, count: u64) -> Result<List<u32>, NoMemory>
+    ensures { IfOk result (λ entries. entries ≡ []) }
+{
+    match Vec::with_capacity(alloc, count as usize) {
+        Ok(entries) => Ok(List::from_vec(entries)),
+        Err(_) => Err(NoMemory),
+    }
 }
 
 /// Appends the table of a function: what it gives for each tuple of numbers below the bounds, in

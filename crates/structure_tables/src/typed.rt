@@ -120,9 +120,9 @@ fn tables_of_symbols<S: TypedSource>(
 
 // a constructor of a structure
 #[derive(Drop)]
-struct ConstructorOf<'a, S> {
-    source: &'a S,
-    constructor: u32,
+pub(crate) struct ConstructorOf<'a, S> {
+    pub source: &'a S,
+    pub constructor: u32,
 }
 
 impl<S: TypedSource> TupleFunction for ConstructorOf<'_, S> {

@@ -1,4 +1,5 @@
-ghost use Rattle.std.specs.Prelude.{◌≡◌, ◌<◌, ◌^◌, length, replicate, sum, sum_by, IfOk};
+ghost use Rattle.std.specs.Prelude.{◌≡◌, ◌+◌, ◌<◌, ◌^◌, length, replicate, slice_index, sum, sum_by, true, IfOk};
+ghost use Rattle.std.specs.List.{All};
 ghost use Rattle.enc_base.specs.Tables.{EachBelow, tuple_count};
 ghost use Rattle.tf_core.specs.Typing.{IsSymbol, IsSignature};
 ghost use Rattle.tf_core.specs.Structures.{argument_sizes, member_count};
@@ -18,9 +19,11 @@ use tf_core::{Constructor, Signature, Symbol};
 /// How many numbers the tables of a structure hold, the sizes of its members counted in, or
 /// 2^64 - 1 where there are more. Nothing of their number is made.
 ///
-/// Parameters of a symbol that stand in one argument type are a group, and the entries are a product
-/// over groups. It takes a step for each tuple of members for the parameters of one group, until
-/// the count is too large.
+/// The sizes and the constructors come first, and nothing is counted behind the place where the count
+/// is too large. Parameters of a symbol that stand in one argument type are a group, and the entries
+/// are a product over groups. For a parameter that occurs once it is found from below how many tuples
+/// give each member that a type can be, in a step for each entry of a constructor's table; a step for
+/// each tuple of members is taken only for the parameters of a group that occur more than once.
 pub fn typed_entries<S: TypedSource>(
     alloc: Global,
     signature: &Signature,
@@ -35,8 +38,8 @@ pub fn typed_entries<S: TypedSource>(
 {
     let members = add_sizes(sizes);
     let constructors = entries_of_constructors(sizes, signature.constructors.as_slice());
-    let symbols = entries_of_symbols(alloc, source, sizes, signature.symbols.as_slice())?;
-    Ok(members.saturating_add(constructors).saturating_add(symbols))
+    let before = members.saturating_add(constructors);
+    add_symbols(alloc, source, sizes, signature.symbols.as_slice(), before)
 }
 
 /// The sum of sizes, or 2^64 - 1 where it is more.
@@ -62,22 +65,27 @@ pub fn entries_of_constructors(sizes: &[u32], constructors: &[Constructor]) -> u
     entries
 }
 
-// how many entries the tables of symbols have
-fn entries_of_symbols<S: TypedSource>(
+// adds the entries of the tables of symbols to a count, until it is too large
+fn add_symbols<S: TypedSource>(
     alloc: Global,
     source: &S,
     sizes: &[u32],
     symbols: &[Symbol],
+    before: u64,
 ) -> Result<u64, NoMemory>
     requires ready { S.is_ready source.now }
     requires symbols { symbols.now ≡ (S.signature source.now).symbols }
     requires typed { IsSignature (S.signature source.now) }
     requires sized { IsSized (S.signature source.now) (S.structure source.now) sizes.now }
-    ensures { IfOk result (λ entries. entries ≡ in_64_bits (sum_by (symbol_count (S.structure source.now)) symbols.now)) }
+    ensures { IfOk result (λ entries. entries ≡ in_64_bits (before + sum_by (symbol_count (S.structure source.now)) symbols.now)) }
 {
-    let mut entries = 0u64;
+    let mut entries = before;
     for symbol in symbols {
-        entries = entries.saturating_add(entries_of_symbol(alloc, source, sizes, symbol)?);
+        if entries == u64::MAX {
+            return Ok(entries);
+        }
+        let more = entries_of_symbol(alloc, source, sizes, symbol)?;
+        entries = entries.saturating_add(more);
     }
     Ok(entries)
 }
@@ -103,7 +111,42 @@ pub fn entries_of_symbol<S: TypedSource>(
         let members = repeated(alloc, 0, symbol.parameters as usize)?;
         return entries_of_block(alloc, source, sizes, symbol, members.as_slice());
     }
+    if are_same(sizes) {
+        return entries_of_same_blocks(alloc, source, sizes, symbol, tuples);
+    }
     entries_of_groups(alloc, source, sizes, symbol)
+}
+
+// whether all sizes are the first one
+fn are_same(sizes: &[u32]) -> bool
+    ensures { result ≡ true → All (λ size. size ≡ slice_index sizes.now 0) sizes.now }
+{
+    for size in sizes {
+        if *size != sizes[0] {
+            return false;
+        }
+    }
+    true
+}
+
+// how many entries the table of a symbol has, of so many blocks, where all members have one size
+fn entries_of_same_blocks<S: TypedSource>(
+    alloc: Global,
+    source: &S,
+    sizes: &[u32],
+    symbol: &Symbol,
+    blocks: u64,
+) -> Result<u64, NoMemory>
+    requires ready { S.is_ready source.now }
+    requires sized { IsSized (S.signature source.now) (S.structure source.now) sizes.now }
+    requires typed { IsSymbol (S.signature source.now) symbol.now }
+    requires same { All (λ size. size ≡ slice_index sizes.now 0) sizes.now }
+    requires blocks { blocks ≡ in_64_bits (tuple_count (replicate symbol.now.parameters (length sizes.now))) }
+    ensures { IfOk result (λ entries. entries ≡ in_64_bits (symbol_count (S.structure source.now) symbol.now)) }
+{
+    let members = repeated(alloc, 0, symbol.parameters as usize)?;
+    let block = entries_of_block(alloc, source, sizes, symbol, members.as_slice())?;
+    Ok(blocks.saturating_mul(block))
 }
 
 // how many entries the block of members has

@@ -15,7 +15,7 @@ loop-entries-init g c =
       below = subst (EachBelow (replicate count (member_count s))) (sym c.in_ok-members.ensures)
           (first_below count (member_count s) c.requires.sized.fits.some);
       so_far =
-          c.new-entries.ensures
+          c.in_ok-entries.ensures
           ∙ blocks_first (member_count s) c.requires.sized.fits.some count
           (symbol_block s c.args.symbol.now c.args.f)
           ∙ ap (blocks_before (member_count s) count (symbol_block s c.args.symbol.now c.args.f))

@@ -1,8 +1,12 @@
-use Rattle.std.proofs.Common.{◌∙◌, ◌+◌, arith, sym}
+use Rattle.std.proofs.Common.{length, subst, ◌∙◌, ap, ◌≡◌}
+use Rattle.enc_base.specs.Tables.{tuple_count}
+use Rattle.tf_models.specs.Evaluation.{in_64_bits}
+use Rattle.structure_tables.specs.ParameterSets.{bounds_of}
+use Rattle.structure_tables.specs.ParameterGroups.{is_unused}
 use Rattle.structure_tables.proofs.TypeVariables.{variables_of_types_below}
-use Rattle.structure_tables.proofs.CountedGroups.{groups_none, groups_more, groups_enough, groups_all}
+use Rattle.structure_tables.proofs.GroupWeights.{bounds_are}
+use Rattle.structure_tables.proofs.SymbolSums.{count_first, count_more, count_enough, count_whole}
 use Rattle.structure_tables.proofs.group_counts.entries_of_groups.Goals as goal
-use Rattle.structure_tables.proofs.group_counts.entries_of_groups.Goals.{else-loop-group-test, then-loop-group-test+in_ok-more+else-entries+else-group-group-end}
 
 pub groups_of-requires : goal.groups_of-requires
 groups_of-requires g c =
@@ -11,51 +15,43 @@ groups_of-requires g c =
 
 pub loop-group-init : goal.loop-group-init
 loop-group-init g c =
-    groups_none (g.S.TypedSource.signature c.args.source.now)
-    (g.S.TypedSource.structure c.args.source.now) c.requires.sized.fits c.args.symbol.now
-    c.requires.typed c.in_ok-groups.groups.parameters c.in_ok-groups.groups.arguments
-    c.in_ok-groups.ensures
+    let s = g.S.TypedSource.structure c.args.source.now in
+    let uses = c.in_ok-groups.groups.uses in
+    let unused = bounds_are s (is_unused uses) c.args.symbol.now.parameters (length uses)
+    c.args.sizes.now c.in_ok-unused.unused c.as_slice-2.result.now c.requires.sized.same
+    c.in_ok-groups.ensures.uses.long
+    (subst (λ us. c.in_ok-unused.unused
+    ≡ bounds_of (length c.args.sizes.now) (is_unused us) (length us)) c.as_slice.ensures
+    c.in_ok-unused.ensures)
+    c.as_slice-2.ensures in
+    count_first (g.S.TypedSource.signature c.args.source.now) s c.requires.sized.fits
+    c.args.symbol.now c.requires.typed uses c.in_ok-groups.ensures.uses
+    c.in_ok-groups.groups.parameters c.in_ok-groups.groups.arguments c.in_ok-groups.ensures.groups
+    c.multiply-free.result c.in_ok-entries.entries
+    (c.multiply-free.ensures.exact ∙ ap (λ bounds. in_64_bits (tuple_count bounds)) unused)
+    c.in_ok-entries.ensures
 
 pub returns-then-entries : goal.returns-then-entries
 returns-then-entries g c =
-    c.saturating_mul-entries.ensures
-    ∙ groups_enough (g.S.TypedSource.signature c.args.source.now)
+    count_enough (g.S.TypedSource.signature c.args.source.now)
     (g.S.TypedSource.structure c.args.source.now) c.requires.sized.fits c.args.symbol.now
-    c.requires.typed c.in_ok-groups.groups.parameters c.in_ok-groups.groups.arguments
-    c.in_ok-groups.ensures c.loop-group.group c.loop-group.entries c.in_ok-more.more
-    c.loop-group.invariant c.in_ok-more.ensures
-    (sym c.saturating_mul-entries.ensures ∙ c.if-entries.true)
+    c.requires.typed c.in_ok-groups.groups.uses c.in_ok-groups.ensures.uses
+    c.in_ok-groups.groups.parameters c.in_ok-groups.groups.arguments c.in_ok-groups.ensures.groups
+    c.loop-group.group c.loop-group.entries c.loop-group.invariant c.if-entries.true
 
 pub loop-group-preserved : goal.loop-group-preserved
 loop-group-preserved g c =
-    c.saturating_mul-entries.ensures
-    ∙ groups_more (g.S.TypedSource.signature c.args.source.now)
+    count_more (g.S.TypedSource.signature c.args.source.now)
     (g.S.TypedSource.structure c.args.source.now) c.requires.sized.fits c.args.symbol.now
-    c.requires.typed c.in_ok-groups.groups.parameters c.in_ok-groups.groups.arguments
-    c.in_ok-groups.ensures c.loop-group.group c.loop-group.entries c.in_ok-more.more
-    c.loop-group.invariant c.in_ok-more.ensures
+    c.requires.typed c.in_ok-groups.groups.uses c.in_ok-groups.ensures.uses
+    c.in_ok-groups.groups.parameters c.in_ok-groups.groups.arguments c.in_ok-groups.ensures.groups
+    c.loop-group.group c.loop-group.entries c.loop-group.invariant _ c.loop-group-test.true
+    c.in_ok-entries-2.ensures
 
 pub returns : goal.returns
 returns g c =
-    elim c.loop-group-test.branch [
-      | else-loop-group-test w ↦
-          w.entries-is
-          ∙ groups_all (g.S.TypedSource.signature c.args.source.now)
-          (g.S.TypedSource.structure c.args.source.now) c.requires.sized.fits c.args.symbol.now
-          c.requires.typed c.in_ok-groups.groups.parameters c.in_ok-groups.groups.arguments
-          c.in_ok-groups.ensures c.loop-group.group c.loop-group.entries
-          (omega (arith, w.loop-group-test.false)) c.loop-group.invariant
-      | then-loop-group-test+in_ok-more+else-entries+else-group-group-end w ↦
-          w.entries-is
-          ∙ w.saturating_mul-entries.ensures
-          ∙ groups_all (g.S.TypedSource.signature c.args.source.now)
-          (g.S.TypedSource.structure c.args.source.now) c.requires.sized.fits c.args.symbol.now
-          c.requires.typed c.in_ok-groups.groups.parameters c.in_ok-groups.groups.arguments
-          c.in_ok-groups.ensures (c.loop-group.group + 1) _
-          (omega arith)
-          (groups_more (g.S.TypedSource.signature c.args.source.now)
-          (g.S.TypedSource.structure c.args.source.now) c.requires.sized.fits c.args.symbol.now
-          c.requires.typed c.in_ok-groups.groups.parameters c.in_ok-groups.groups.arguments
-          c.in_ok-groups.ensures c.loop-group.group c.loop-group.entries w.in_ok-more.more
-          c.loop-group.invariant w.in_ok-more.ensures)
-    ]
+    count_whole (g.S.TypedSource.signature c.args.source.now)
+    (g.S.TypedSource.structure c.args.source.now) c.requires.sized.fits c.args.symbol.now
+    c.requires.typed c.in_ok-groups.groups.uses c.in_ok-groups.ensures.uses
+    c.in_ok-groups.groups.parameters c.in_ok-groups.groups.arguments c.in_ok-groups.ensures.groups
+    c.loop-group.group c.loop-group.entries c.loop-group.invariant c.loop-group-test.false

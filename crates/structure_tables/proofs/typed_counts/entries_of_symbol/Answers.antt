@@ -6,7 +6,7 @@ use Rattle.tf_models.specs.Evaluation.{in_64_bits}
 use Rattle.structure_tables.specs.EntryCounts.{symbol_count}
 use Rattle.structure_tables.proofs.BlockOrder.{first_below}
 use Rattle.structure_tables.proofs.ProductSums.{total-single}
-use Rattle.structure_tables.proofs.GroupedCounts.{symbol_count-grows}
+use Rattle.structure_tables.proofs.SymbolCounts.{symbol_count-grows}
 use Rattle.structure_tables.proofs.typed_counts.entries_of_symbol.Goals as goal
 
 pub returns-then-tuples : goal.returns-then-tuples
