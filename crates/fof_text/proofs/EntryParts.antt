@@ -8,7 +8,7 @@ use Rattle.fof_models.specs.declared.problem.FofProblem.{FofProblem}
 use Rattle.tptp_words.specs.Text.{Token}
 use Rattle.fof_text.specs.Written.{Writer, mark_word, lower_word, label_word, role_name}
 use Rattle.fof_text.specs.Written.{entry_words, problem_words, formula_words, text_of}
-use Rattle.fof_text.specs.Sent.{part}
+use Rattle.fof_text.specs.Pieces.{part}
 use Rattle.fof_text.proofs.Spelled.{text}
 use Rattle.fof_text.proofs.Splits.{Splits, word_splits, word_then, then_splits}
 use Rattle.fof_text.proofs.WrittenSplits.{formulas_split}

@@ -20,7 +20,7 @@ use Rattle.fof_text.specs.Names.{name_at}
 use Rattle.fof_text.specs.Written.{Writer, lower_word, quoted_word, is_lower, name_word}
 use Rattle.fof_text.specs.Written.{variable_word, applied, side_by_side, Both, term_words}
 use Rattle.fof_text.specs.Written.{term_words_step, formula_words, formula_words_step}
-use Rattle.fof_text.specs.Sent.{part, between, in_row, in_row_from}
+use Rattle.fof_text.specs.Pieces.{part, between, in_row, in_row_from}
 use Rattle.fof_text.proofs.Trees.{formulas_by_layer}
 use Rattle.fof_text.proofs.Splits.{AllSplit, and_piece, or_piece, implies_piece, equals_piece}
 use Rattle.fof_text.proofs.Splits.{unequal_piece, all_piece, some_piece, brackets_part, chain_part}
@@ -68,14 +68,23 @@ row_end f piece us i l = ap (λ z. in_row piece (map f z)) (take_all i us l)
 
 -- ---- names
 
-pub name_part : (n : List ℕ) (v : Bool) → is_lower n ≡ v
-    → part (λ rest. name_word n ∷ rest)
+-- how a name is spelled, by whether it is a word as it is
+pub name_spelled : (n : List ℕ) (v : Bool) → is_lower n ≡ v
+    → (name_word n).spelling
     ≡ (if v then n else single_quote ∷ (escaped single_quote n ++ single_quote ∷ []))
-name_part n v e = ap (λ u. part (λ rest. (if u then lower_word n else quoted_word n) ∷ rest)) e
-    ∙ go v
+name_spelled n v e = ap (λ u. (if u then lower_word n else quoted_word n).spelling) e ∙ go v
+  where
+    go : (v : Bool) → (if v then lower_word n else quoted_word n).spelling
+        ≡ (if v then n else single_quote ∷ (escaped single_quote n ++ single_quote ∷ []))
+    go true = refl
+    go false = refl
+
+-- a name alone has no spaces around it
+pub name_part : (n : List ℕ) → part (λ rest. name_word n ∷ rest) ≡ (name_word n).spelling
+name_part n = go (is_lower n)
   where
     go : (v : Bool) → part (λ rest. (if v then lower_word n else quoted_word n) ∷ rest)
-        ≡ (if v then n else single_quote ∷ (escaped single_quote n ++ single_quote ∷ []))
+        ≡ (if v then lower_word n else quoted_word n).spelling
     go true = append-nil n
     go false = append-nil (single_quote ∷ (escaped single_quote n ++ single_quote ∷ []))
 

@@ -5,7 +5,7 @@ use Rattle.std.specs.Prelude.{codes}
 use Rattle.tptp_words.specs.Text.{Token}
 use Rattle.fof_text.specs.Written.{Writer, mark_word, name_word, variable_word, more, separated}
 use Rattle.fof_text.specs.Written.{in_brackets, applied, side_by_side, quantified, before, after}
-use Rattle.fof_text.specs.Sent.{part, in_row, in_row_from}
+use Rattle.fof_text.specs.Pieces.{part, in_row, in_row_from}
 use Rattle.fof_text.proofs.Spelled.{text}
 
 -- what follows is written behind the part

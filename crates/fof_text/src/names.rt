@@ -39,6 +39,7 @@ impl Names {
     /// symbol of the signature wants.
     pub fn choose(alloc: Global, signature: &[FofSymbol]) -> Result<Names, NoMemory>
         ensures exact { IfOk result (λ names. names ≡ chosen_names signature.now) }
+        ensures one_each { IfOk result (λ names. length names ≡ length signature.now) }
         ensures differ { IfOk result (λ names. AllDiffer names) }
     {
         let count = count_of(signature);

@@ -1,13 +1,14 @@
 //! Problems.
 
-ghost use Rattle.std.specs.Prelude.{◌≡◌, ◌<◌, ◌^◌, true, OnOk, OnErr};
+ghost use Rattle.std.specs.Prelude.{◌≡◌, ◌<◌, ◌^◌, OnOk, OnErr};
 ghost use Rattle.std.specs.List.{AllByRecursion};
 ghost use Rattle.std.specs.Io.KnownBytes.{Appends};
 ghost use Rattle.enc_base.specs.Counts.{Rose};
+ghost use Rattle.enc_base.specs.Pending.{Puts};
 ghost use Rattle.enc_base.specs.Sink.{AppendsPrefix};
 ghost use Rattle.fof_models.specs.declared.problem.FofFormula.{FofFormula};
 ghost use Rattle.tptp_words.specs.Layout.{written};
-ghost use Rattle.fof_text.specs.Sent.{SentTo, part};
+ghost use Rattle.fof_text.specs.Pieces.{part};
 ghost use Rattle.fof_models.specs.Sound.{IsSound, binder_count};
 ghost use Rattle.fof_text.specs.States.{AreNamed};
 ghost use Rattle.fof_text.specs.Written as words;
@@ -15,8 +16,7 @@ ghost use Rattle.fof_text.specs.Written as words;
 use crate::Names;
 use crate::formula::put_formula;
 use crate::name::put_label;
-use crate::put::put;
-use enc_base::{Name, Sink};
+use enc_base::{Name, Pending, Sink};
 use fof_models::{FofFormula, FofProblem, FofRole};
 use thiserror::Error;
 
@@ -36,45 +36,39 @@ fn role_name(role: &FofRole) -> &'static [u8]
     }
 }
 
-/// Sends a formula with its name and role.
-fn put_entry<O: Sink>(entry: &FofFormula, names: &[Name], out: &mut O, going: bool) -> bool
-    ensures { binder_count entry.now.body < 2 ^ 32 →
-        SentTo O.bytes O.faults going out.old out.new result
+/// Puts a formula with its name and role.
+fn put_entry<O: Sink>(entry: &FofFormula, names: &[Name], pending: &mut Pending, out: &mut O)
+    requires { binder_count entry.now.body < 2 ^ 32 }
+    ensures { Puts O.bytes O.faults pending.old pending.new out.old out.new
         (part (words.entry_words names.now entry.now)) }
 {
-    let going = put(b"fof(", out, going);
-    let going = put_label(entry.name.as_slice(), out, going);
-    let going = put(b",", out, going);
-    let going = put(role_name(&entry.role), out, going);
-    let going = put(b",", out, going);
-    let going = put_formula(&entry.body, 0, names, out, going);
-    put(b").\n", out, going)
+    pending.put(b"fof(", out);
+    put_label(entry.name.as_slice(), pending, out);
+    pending.put(b",", out);
+    pending.put(role_name(&entry.role), out);
+    pending.put(b",", out);
+    put_formula(&entry.body, 0, names, pending, out);
+    pending.put(b").\n", out);
 }
 
-/// Sends formulas, each on a line of its own.
-pub(crate) fn put_entries<O: Sink>(
-    entries: &[FofFormula],
-    names: &[Name],
-    out: &mut O,
-    mut going: bool,
-) -> bool
-    ensures { AllByRecursion (λ (f : FofFormula). binder_count f.body < 2 ^ 32) entries.now →
-        SentTo O.bytes O.faults going out.old out.new result
+/// Puts formulas, each on a line of its own.
+fn put_entries<O: Sink>(entries: &[FofFormula], names: &[Name], pending: &mut Pending, out: &mut O)
+    requires { AllByRecursion (λ (f : FofFormula). binder_count f.body < 2 ^ 32) entries.now }
+    ensures { Puts O.bytes O.faults pending.old pending.new out.old out.new
         (written words.before words.after (words.problem_words names.now entries.now)) }
 {
     for entry in entries {
-        going = put_entry(entry, names, out, going);
+        put_entry(entry, names, pending, out);
     }
-    going
 }
 
-/// Sends all formulas of a problem.
-fn put_problem<O: Sink>(problem: &FofProblem, names: &Names, out: &mut O) -> bool
+/// Puts the text of a problem among the bytes that wait for a sink, one formula a line.
+pub fn put_problem<O: Sink>(problem: &FofProblem, names: &Names, pending: &mut Pending, out: &mut O)
     requires { IsSound problem.now }
-    ensures { SentTo O.bytes O.faults true out.old out.new result
+    ensures { Puts O.bytes O.faults pending.old pending.new out.old out.new
         (words.text_of names.now problem.now) }
 {
-    put_entries(problem.formulas.as_slice(), names.as_slice(), out, true)
+    put_entries(problem.formulas.as_slice(), names.as_slice(), pending, out);
 }
 
 /// Writes the text of a problem, one formula a line, each line ended by a line feed.
@@ -94,9 +88,10 @@ pub fn write_problem<O: Sink>(
     ensures within { OnErr result
         (AppendsPrefix (O.bytes out.old) (O.bytes out.new) (words.text_of names.now problem.now)) }
 {
-    if put_problem(problem, names, out) {
-        Ok(())
-    } else {
-        Err(WriteFault::Failed)
+    let mut pending = Pending::new();
+    put_problem(problem, names, &mut pending, out);
+    match pending.finish(out) {
+        Ok(()) => Ok(()),
+        Err(_) => Err(WriteFault::Failed),
     }
 }

@@ -20,6 +20,7 @@ pub mod Derived
 pub mod WrittenWords
 pub mod ItemsWritten
 pub mod OneStructure
+pub mod SmallNumbers
 pub mod WrittenTables
 pub mod UntypedTexts
 pub mod Checked

@@ -1,13 +1,12 @@
 -- What the code sends for a table, part by part.
-use Rattle.std.proofs.Common.{◌≡◌, ◌+◌, ◌<◌, ◌≤◌, ℕ, zero, suc, Bool, true, false, List, [], ◌∷◌}
+use Rattle.std.proofs.Common.{◌≡◌, ◌+◌, ◌<◌, ◌≤◌, ℕ, zero, suc, List, [], ◌∷◌}
 use Rattle.std.proofs.Common.{◌++◌, map, length, take, refl, sym, ap, ◌∙◌, arith, append-nil}
-use Rattle.std.proofs.Common.{append_assoc, if◌then◌else◌}
+use Rattle.std.proofs.Common.{append_assoc, Fits, w32}
+use Rattle.std.proofs.Math.Facts.{Fits-lt-pow}
 use Rattle.std.specs.Prelude.{codes, get_or}
 use Rattle.std.specs.Fmt.{decimal}
 use Rattle.std.proofs.lemmas.List.{take_more, take_all, length-take-le}
-use Rattle.tptp_words.specs.Text.{escaped, single_quote}
-use Rattle.fof_text.specs.Written.{number_word, mark_word, name_word, lower_word, quoted_word}
-use Rattle.fof_text.specs.Written.{is_lower}
+use Rattle.fof_text.specs.Written.{number_word, mark_word}
 use Rattle.tf_core.specs.declared.signature.Constructor.{Constructor}
 use Rattle.tf_core.specs.declared.signature.Symbol.{Symbol}
 use Rattle.tf_core.specs.declared.signature.Signature.{Signature}
@@ -18,23 +17,11 @@ use Rattle.model_tables.specs.declared.form.Form.{Form}
 use Rattle.model_tables.specs.declared.form.Form.TheVariants.{Typed, Untyped}
 use Rattle.model_tables.specs.Grammar.{size_word}
 use Rattle.model_tables.specs.Untyped.{symbol_kind}
+use Rattle.model_tables.specs.WrittenLaws.{AreNumbers}
 use Rattle.model_tables.specs.Written.{Laid, laid, first_word, next_word, line_end, Writer, numbers}
 use Rattle.model_tables.specs.Written.{form_line, size_line, kind_word, Heading, item_line, item_lines}
 use Rattle.model_tables.specs.Written.{constructor_headings, constructor_heading, heading}
 use Rattle.model_tables.specs.Written.{fof_headings, symbol_headings, typed_text, untyped_text}
-
--- ---- names
-
-pub name_spelled : (n : List ℕ) (v : Bool) → is_lower n ≡ v
-    → (name_word n).spelling
-    ≡ (if v then n else single_quote ∷ (escaped single_quote n ++ single_quote ∷ []))
-name_spelled n v e =
-    ap (λ u. (if u then lower_word n else quoted_word n).spelling) e ∙ go v
-  where
-    go : (v : Bool) → (if v then lower_word n else quoted_word n).spelling
-        ≡ (if v then n else single_quote ∷ (escaped single_quote n ++ single_quote ∷ []))
-    go true = refl
-    go false = refl
 
 -- ---- parts, and what follows them
 
@@ -63,6 +50,13 @@ pub word_then : (v : Laid) (w : Writer) → Splits w → Splits (λ rest. v ∷ 
 word_then v w h = then_splits (λ rest. v ∷ rest) w (word_splits v) h
 
 -- ---- numbers
+
+-- the numbers of a slice have 32 bits
+pub fits_numbers : (ns : List ℕ) → ((i : ℕ) → Fits w32 (get_or ns i 0)) → AreNumbers ns
+fits_numbers [] each = tt
+fits_numbers (n ∷ ns) each =
+    let first : Fits w32 n = each 0 in
+    (Fits-lt-pow first, fits_numbers ns (λ i. each (suc i)))
 
 pub numbers_split : (ns : List ℕ) → Splits (numbers ns)
 numbers_split [] = record { at = λ rest. refl }

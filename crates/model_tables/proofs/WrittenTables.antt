@@ -1,10 +1,9 @@
 -- The text that is written for a structure is its table, and that of no other structure.
-use Rattle.std.proofs.Common.{◌≡◌, ℕ, zero, suc, ◌+◌, ◌<◌, List, [], ◌∷◌, ◌++◌, length, map, Some}
-use Rattle.std.proofs.Common.{None, refl, sym, ap, ◌∙◌, subst, arith, Bool, true, false, if◌then◌else◌}
-use Rattle.std.specs.Prelude.{codes, slice_get}
+use Rattle.std.proofs.Common.{◌≡◌, ℕ, suc, ◌<◌, ◌^◌, List, [], ◌∷◌, ◌++◌, length, map, Some}
+use Rattle.std.proofs.Common.{refl, sym, ap, ◌∙◌, subst, arith, Bool, true, false, if◌then◌else◌}
+use Rattle.std.specs.Prelude.{slice_get}
 use Rattle.std.specs.List.{AllByRecursion}
 use Rattle.std.proofs.lemmas.List.{length-map}
-use Rattle.tptp_words.specs.Text.{Token, tokens, IsText}
 use Rattle.tptp_words.specs.Words.{name}
 use Rattle.tf_core.specs.declared.signature.Constructor.{Constructor}
 use Rattle.tf_core.specs.declared.signature.Symbol.{Symbol}
@@ -22,27 +21,26 @@ use Rattle.fof_text.specs.States.{IsWritable}
 use Rattle.fof_text.specs.Written.{lower_word, name_word, quoted_word, is_lower}
 use Rattle.fof_text.proofs.Spelled.{name_is}
 use Rattle.model_tables.specs.declared.form.Form.TheVariants.{Typed, Untyped}
-use Rattle.model_tables.specs.declared.form.Kind.{Kind}
 use Rattle.model_tables.specs.declared.form.Kind.TheVariants as kind
-use Rattle.model_tables.specs.Grammar.{Item, Table, table, item, item_kind, item_name}
+use Rattle.model_tables.specs.Grammar.{Item, table, item, item_kind, item_name}
 use Rattle.model_tables.specs.Grammar.{constructor_name}
-use Rattle.model_tables.specs.Faults.{Want}
 use Rattle.model_tables.specs.Typed.{IsTypedTable, constructor_want, symbol_want, constructor_wants}
 use Rattle.model_tables.specs.Typed.{symbol_wants}
 use Rattle.model_tables.specs.Untyped as untyped
 use Rattle.model_tables.specs.Untyped.{IsUntypedTable, symbol_kind}
-use Rattle.model_tables.specs.Writable.{IsNamed, AreNames, constructor_names, symbol_names}
-use Rattle.model_tables.specs.Written.{Laid, laid, words_of, typed_words, typed_text, untyped_words}
-use Rattle.model_tables.specs.Written.{untyped_text, constructor_headings, constructor_word}
+use Rattle.model_tables.specs.Writable.{IsNamed, AreNames}
+use Rattle.model_tables.specs.Written.{Laid, words_of, typed_words, typed_text, untyped_words}
+use Rattle.model_tables.specs.Written.{untyped_text, constructor_headings}
 use Rattle.model_tables.specs.Written.{symbol_headings, fof_headings, kind_word, item_lines}
 use Rattle.model_tables.specs.Written.{form_line, size_line}
-use Rattle.model_tables.specs.WrittenLaws.{AreNumbers, HasNumbers, UntypedHasNumbers}
+use Rattle.model_tables.specs.WrittenLaws.{AreNumbers, HasNumbers}
 use Rattle.model_tables.specs.WrittenLaws.{TypedTextIsItsTable, UntypedTextIsItsTable}
 use Rattle.model_tables.proofs.ReadBack.{Stand, placed, tokens-placed, read_back}
-use Rattle.model_tables.proofs.Derived.{IsHeading, AreHeadings, items_of, typed_opening}
+use Rattle.model_tables.proofs.Derived.{AreHeadings, items_of, typed_opening}
 use Rattle.model_tables.proofs.Derived.{untyped_opening, item_row, rows_both, as_table}
 use Rattle.model_tables.proofs.WrittenWords.{name_ends, individuals_end, opening_stands, lines_stand}
 use Rattle.model_tables.proofs.ItemsWritten.{names_of, are_items}
+use Rattle.model_tables.proofs.SmallNumbers.{typed_numbers, untyped_numbers}
 use Rattle.model_tables.proofs.OneStructure.{one_typed, one_untyped}
 
 -- ---- headings
@@ -164,6 +162,7 @@ typed_is g s named formed small [] e =
     absurd (omega (arith, some, ap length e))
 typed_is g s named formed small (n ∷ ns) e =
     let few : AreNumbers (n ∷ ns) = subst AreNumbers e small.sizes in
+    let all = typed_numbers g s formed small in
     let first = constructor_headings 0 g.constructors in
     let second = symbol_headings g.symbols in
     let types : List Item = items_of (constructor_wants g) s.constructors in
@@ -177,8 +176,8 @@ typed_is g s named formed small (n ∷ ns) e =
     subst (λ z. Stand (form_line Typed (size_line Typed z lines))) (sym e)
     (opening_stands Typed n ns lines few
     (lines_stand Typed first (constructor_wants g) s.constructors behind for_types
-    small.constructors
-    (lines_stand Typed second (symbol_wants g) s.symbols [] for_others small.symbols tt))) in
+    all.constructors
+    (lines_stand Typed second (symbol_wants g) s.symbols [] for_others all.symbols tt))) in
     let derives : (table Typed).derives (words_of words) []
     (record { sizes = s.sizes; items = types ++ others }) =
     subst (λ z. (table Typed).derives (words_of (form_line Typed (size_line Typed z lines))) []
@@ -186,8 +185,8 @@ typed_is g s named formed small (n ∷ ns) e =
     (as_table Typed (words_of (form_line Typed (size_line Typed (n ∷ ns) lines))) (words_of lines)
     (n ∷ ns) (types ++ others) (typed_opening n ns lines few)
     (rows_both (item Typed) (words_of lines) (words_of behind) [] types others
-    (item_row Typed first (constructor_wants g) s.constructors behind for_types small.constructors)
-    (item_row Typed second (symbol_wants g) s.symbols [] for_others small.symbols))) in
+    (item_row Typed first (constructor_wants g) s.constructors behind for_types all.constructors)
+    (item_row Typed second (symbol_wants g) s.symbols [] for_others all.symbols))) in
     record {
       words = placed words;
       types = types;
@@ -212,23 +211,24 @@ typed_text_is_its_table g s named formed small =
 -- ---- untyped structures
 
 untyped_is : (p : FofProblem) (names : List (List ℕ)) (s : Structure)
-    → AreNames p.signature names → IsWellFormed p.signature s → UntypedHasNumbers s
+    → AreNames p.signature names → IsWellFormed p.signature s → s.size < 2 ^ 32
     → IsUntypedTable (untyped_text p.signature names s) p names s
 unfolding untyped_text
 untyped_is p names s named formed small =
+    let all = untyped_numbers p.signature s formed small in
     let heads = fof_headings p.signature names in
     let wants = untyped.symbol_wants p.signature names in
     let items : List Item = items_of wants s.tables in
     let for_items = all_fof p.signature names named.writable in
     let lines : List Laid = item_lines heads s.tables [] in
     let words : List Laid = untyped_words p.signature names s in
-    let stand : Stand words = opening_stands Untyped s.size [] lines (small.size, tt)
-    (lines_stand Untyped heads wants s.tables [] for_items small.tables tt) in
+    let stand : Stand words = opening_stands Untyped s.size [] lines (small, tt)
+    (lines_stand Untyped heads wants s.tables [] for_items all tt) in
     let derives : (table Untyped).derives (words_of words) []
     (record { sizes = s.size ∷ []; items = items }) =
     as_table Untyped (words_of words) (words_of lines) (s.size ∷ []) items
-    (untyped_opening s.size lines small.size)
-    (item_row Untyped heads wants s.tables [] for_items small.tables) in
+    (untyped_opening s.size lines small)
+    (item_row Untyped heads wants s.tables [] for_items all) in
     record {
       words = placed words;
       items = items;

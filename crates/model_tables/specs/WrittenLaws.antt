@@ -1,5 +1,5 @@
 -- What is promised of the text that is written for a structure.
-use Rattle.std.specs.Prelude.{◌≡◌, ℕ, ◌<◌, ◌^◌, List}
+use Rattle.std.specs.Prelude.{◌≡◌, ℕ, ◌<◌, ◌≤◌, ◌^◌, List, length}
 use Rattle.std.specs.List.{AllByRecursion}
 use Rattle.tf_core.specs.declared.signature.Signature.{Signature}
 use Rattle.tf_core.specs.TypedTables.{IsWellFormed as IsTyped}
@@ -17,16 +17,21 @@ use Rattle.model_tables.specs.Written.{typed_text, untyped_text}
 abbrev pub AreNumbers : List ℕ → Type 0
 AreNumbers ns = AllByRecursion (λ n. n < 2 ^ 32) ns
 
--- the numbers of a structure have 32 bits, as those of a program's structure always have
-
+-- A size has 32 bits, and so has the number of a member, as those of a program's structure have.
+-- Of a well-formed structure every number in its tables has then.
 pub record HasNumbers (s : TypedStructure) : Type 0 where
   pub sizes : AreNumbers s.sizes
-  pub constructors : AllByRecursion AreNumbers s.constructors
-  pub symbols : AllByRecursion AreNumbers s.symbols
+  pub members : length s.sizes ≤ 2 ^ 32
 
-pub record UntypedHasNumbers (s : Structure) : Type 0 where
-  pub size : s.size < 2 ^ 32
-  pub tables : AllByRecursion AreNumbers s.tables
+-- the text is a table of the structure, and of no other
+
+abbrev pub TellsTyped : List ℕ → Signature → TypedStructure → Type 0
+TellsTyped text g s = IsTypedTable text g s
+    × ((other : TypedStructure) → IsTypedTable text g other → other ≡ s)
+
+abbrev pub TellsUntyped : List ℕ → FofProblem → List (List ℕ) → Structure → Type 0
+TellsUntyped text p names s = IsUntypedTable text p names s
+    × ((other : Structure) → IsUntypedTable text p names other → other ≡ s)
 
 -- The text that is written for a well-formed structure is a table of it, where the names can be
 -- written, and of no other structure.
@@ -34,15 +39,12 @@ pub record UntypedHasNumbers (s : Structure) : Type 0 where
 abbrev pub TypedTextIsItsTable : Type 0
 TypedTextIsItsTable = (g : Signature) (s : TypedStructure) → IsNamed g → IsTyped g (tables s)
     → HasNumbers s
-    → IsTypedTable (typed_text g s) g s
-    × ((other : TypedStructure) → IsTypedTable (typed_text g s) g other → other ≡ s)
+    → TellsTyped (typed_text g s) g s
 
 abbrev pub UntypedTextIsItsTable : Type 0
 UntypedTextIsItsTable = (p : FofProblem) (names : List (List ℕ)) (s : Structure)
-    → AreNames p.signature names → IsWellFormed p.signature s → UntypedHasNumbers s
-    → IsUntypedTable (untyped_text p.signature names s) p names s
-    × ((other : Structure) → IsUntypedTable (untyped_text p.signature names s) p names other
-    → other ≡ s)
+    → AreNames p.signature names → IsWellFormed p.signature s → s.size < 2 ^ 32
+    → TellsUntyped (untyped_text p.signature names s) p names s
 
 -- whatever the text, it is a table of at most one structure
 

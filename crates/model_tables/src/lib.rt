@@ -16,17 +16,12 @@ mod lines;
 mod marks;
 mod partial;
 mod parts;
-mod put;
 mod reader;
 mod sizes;
 mod spelled;
 mod symbols;
-#[cfg(test)]
-mod tests;
 mod typed;
 mod typed_laws;
-#[cfg(test)]
-mod typed_tests;
 mod untyped;
 mod write;
 mod written_laws;

@@ -1,11 +1,14 @@
-use Rattle.fof_text.proofs.Sending.{went, fell}
+use Rattle.enc_base.proofs.Puts.{all_sent, some_sent}
 use Rattle.fof_text.proofs.problem.write_problem.Goals as goal
 
-pub returns-then-put_problem-clause-exact : goal.returns-then-put_problem-clause-exact
-returns-then-put_problem-clause-exact g c = went c.if-put_problem.true c.put_problem.ensures
+pub returns-in-Ok-clause-exact : goal.returns-in-Ok-clause-exact
+returns-in-Ok-clause-exact g c =
+    all_sent c.new-pending.ensures c.put_problem.ensures c.in-Ok.ensures.exact
 
-pub returns-else-put_problem-clause-cause : goal.returns-else-put_problem-clause-cause
-returns-else-put_problem-clause-cause g c = (fell c.if-put_problem.false c.put_problem.ensures).1
+pub returns-in-Err-clause-cause : goal.returns-in-Err-clause-cause
+returns-in-Err-clause-cause g c =
+    (some_sent c.new-pending.ensures c.put_problem.ensures c.in-Err.ensures.cause).1
 
-pub returns-else-put_problem-clause-within : goal.returns-else-put_problem-clause-within
-returns-else-put_problem-clause-within g c = (fell c.if-put_problem.false c.put_problem.ensures).0
+pub returns-in-Err-clause-within : goal.returns-in-Err-clause-within
+returns-in-Err-clause-within g c =
+    (some_sent c.new-pending.ensures c.put_problem.ensures c.in-Err.ensures.cause).0

@@ -1,6 +1,6 @@
-use Rattle.std.proofs.Common.{sym, ap, ◌∙◌, ◌≡◌, ◌<◌, ◌≤◌, ◌+◌, ℕ, List, [], ◌++◌}
+use Rattle.std.proofs.Common.{sym, ap, ◌∙◌, ◌≡◌, ◌<◌, ◌+◌, ℕ, List, [], ◌++◌}
 use Rattle.std.proofs.Common.{length, take, arith}
-use Rattle.fof_text.proofs.Sending.{then_sent, sent_as}
+use Rattle.enc_base.proofs.Puts.{then_put, put_as}
 use Rattle.tf_core.specs.declared.signature.Constructor.{Constructor}
 use Rattle.model_tables.specs.Written.{laid, item_line, item_lines, constructor_headings, constructor_heading}
 use Rattle.model_tables.proofs.LineParts.{line_next, lines_end, constructor_there}
@@ -21,7 +21,7 @@ loop-i-preserved g c =
     let front : List ℕ =
     laid (item_lines (take i (constructor_headings 0 given)) (take i c.args.tables.now) []) in
     let place : 0 + i ≡ i = omega arith in
-    sent_as
+    put_as
     (ap (λ z. front ++ laid (item_line (constructor_heading i z) c.as_slice.result.now []))
     c.as_slice-name.ensures
     ∙ ap (λ (k : Constructor).
@@ -31,11 +31,11 @@ loop-i-preserved g c =
     ∙ sym (line_next (constructor_headings 0 given) c.args.tables.now i head entries first second
     (constructor_there 0 given i one head below c.index-constructors-i.is
     ∙ ap (λ m. constructor_heading m one.name) place) c.index-tables-i.is))
-    (then_sent c.loop-i.invariant c.put_constructor-going.ensures)
+    (then_put c.loop-i.invariant c.put_constructor.ensures)
 
 pub returns : goal.returns
 returns g c =
-    sent_as (lines_end (constructor_headings 0 c.args.constructors.now) c.args.tables.now c.loop-i.i
+    put_as (lines_end (constructor_headings 0 c.args.constructors.now) c.args.tables.now c.loop-i.i
     (let past = c.loop-i-test.false in omega (arith, past, constructors_long 0 c.args.constructors.now))
     (let past = c.loop-i-test.false in omega (arith, past, c.requires)))
     c.loop-i.invariant

@@ -1,6 +1,6 @@
-use Rattle.fof_text.proofs.Sending.{then_sent}
+use Rattle.enc_base.proofs.Puts.{then_put}
 use Rattle.model_tables.proofs.lines.put_entries.Goals as goal
 
 pub returns : goal.returns
 returns g c =
-    then_sent (then_sent c.put-going.ensures c.put_numbers-going.ensures) c.put.ensures
+    then_put (then_put c.put.ensures.puts c.put_numbers.ensures) c.put-2.ensures.puts

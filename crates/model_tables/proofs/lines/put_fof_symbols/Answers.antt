@@ -1,6 +1,6 @@
-use Rattle.std.proofs.Common.{sym, ap, ◌∙◌, ◌≡◌, ◌<◌, ◌≤◌, ℕ, List, [], ◌++◌}
+use Rattle.std.proofs.Common.{sym, ap, ◌∙◌, ◌<◌, ℕ, List, [], ◌++◌}
 use Rattle.std.proofs.Common.{length, take, arith}
-use Rattle.fof_text.proofs.Sending.{then_sent, sent_as}
+use Rattle.enc_base.proofs.Puts.{then_put, put_as}
 use Rattle.model_tables.specs.Untyped.{symbol_kind}
 use Rattle.model_tables.specs.Written.{laid, item_line, item_lines, fof_headings, heading}
 use Rattle.model_tables.proofs.LineParts.{line_next, lines_end, fof_there, fof_long}
@@ -23,19 +23,19 @@ loop-i-preserved g c =
     let front : List ℕ =
     laid (item_lines (take i (fof_headings given names)) (take i c.args.tables.now) []) in
     let last = c.as_slice-in-loop-i.result.now in
-    sent_as (ap (λ z. front ++ laid (item_line (heading z c.as_slice.result.now) last []))
+    put_as (ap (λ z. front ++ laid (item_line (heading z c.as_slice.result.now) last []))
     c.kind_of-kind.ensures
     ∙ ap (λ z. front ++ laid (item_line (heading (symbol_kind one) z) last [])) c.as_slice.ensures
     ∙ ap (λ z. front ++ laid (item_line head z [])) c.as_slice-in-loop-i.ensures
     ∙ sym (line_next (fof_headings given names) c.args.tables.now i head entries first second
     (fof_there given names i one name head below third c.index-signature-i.is c.index-names-i.is)
     c.index-tables-i.is))
-    (then_sent c.loop-i.invariant c.put_symbol-going.ensures)
+    (then_put c.loop-i.invariant c.put_symbol.ensures)
 
 pub returns : goal.returns
 returns g c =
     let past = c.loop-i-test.false in
     let long = fof_long c.args.signature.now c.args.names.now c.requires.named in
-    sent_as (lines_end (fof_headings c.args.signature.now c.args.names.now) c.args.tables.now
+    put_as (lines_end (fof_headings c.args.signature.now c.args.names.now) c.args.tables.now
     c.loop-i.i (omega (arith, past, long)) (omega (arith, past, c.requires.tabled)))
     c.loop-i.invariant

@@ -1,10 +1,10 @@
-use Rattle.std.proofs.Common.{sym, ap, ◌∙◌, ◌≡◌, ◌<◌, ◌≤◌, ℕ, List, [], ◌++◌}
+use Rattle.std.proofs.Common.{sym, ap, ◌∙◌, ◌<◌, ℕ, List, [], ◌++◌}
 use Rattle.std.proofs.Common.{length, take, arith}
 use Rattle.std.proofs.lemmas.List.{length-map}
-use Rattle.fof_text.proofs.Sending.{then_sent, sent_as}
+use Rattle.enc_base.proofs.Puts.{then_put, put_as}
 use Rattle.tf_core.specs.declared.signature.Symbol.{Symbol}
 use Rattle.model_tables.specs.declared.form.Kind.TheVariants as kind
-use Rattle.model_tables.specs.Written.{laid, item_line, item_lines, symbol_headings, heading, Heading}
+use Rattle.model_tables.specs.Written.{laid, item_line, item_lines, symbol_headings, heading}
 use Rattle.model_tables.proofs.LineParts.{line_next, lines_end, mapped_there}
 use Rattle.model_tables.proofs.lines.put_symbols.Goals as goal
 
@@ -21,7 +21,7 @@ loop-i-preserved g c =
     let second : i < length c.args.tables.now = omega (arith, below, c.requires) in
     let front : List ℕ =
     laid (item_lines (take i (symbol_headings given)) (take i c.args.tables.now) []) in
-    sent_as (ap (λ z. front ++ laid (item_line (heading kind.Symbol z) c.as_slice.result.now []))
+    put_as (ap (λ z. front ++ laid (item_line (heading kind.Symbol z) c.as_slice.result.now []))
     c.as_slice-name.ensures
     ∙ ap (λ (k : Symbol).
     front ++ laid (item_line (heading kind.Symbol k.name) c.as_slice.result.now []))
@@ -30,12 +30,12 @@ loop-i-preserved g c =
     ∙ sym (line_next (symbol_headings given) c.args.tables.now i head entries first second
     (mapped_there (λ (f : Symbol). heading kind.Symbol f.name) given i one head below
     c.index-symbols-i.is) c.index-tables-i.is))
-    (then_sent c.loop-i.invariant c.put_symbol-going.ensures)
+    (then_put c.loop-i.invariant c.put_symbol.ensures)
 
 pub returns : goal.returns
 returns g c =
     let past = c.loop-i-test.false in
     let long = length-map c.args.symbols.now (λ (f : Symbol). heading kind.Symbol f.name) in
-    sent_as (lines_end (symbol_headings c.args.symbols.now) c.args.tables.now c.loop-i.i
+    put_as (lines_end (symbol_headings c.args.symbols.now) c.args.tables.now c.loop-i.i
     (omega (arith, past, long)) (omega (arith, past, c.requires)))
     c.loop-i.invariant

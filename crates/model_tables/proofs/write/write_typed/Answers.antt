@@ -1,11 +1,25 @@
-use Rattle.fof_text.proofs.Sending.{went, fell}
+use Rattle.enc_base.proofs.Puts.{all_sent, some_sent}
+use Rattle.model_tables.proofs.WrittenTables.{typed_text_is_its_table}
 use Rattle.model_tables.proofs.write.write_typed.Goals as goal
 
-pub returns-then-put_typed-clause-exact : goal.returns-then-put_typed-clause-exact
-returns-then-put_typed-clause-exact g c = went c.if-put_typed.true c.put_typed.ensures
+pub returns-in-Ok-clause-exact : goal.returns-in-Ok-clause-exact
+returns-in-Ok-clause-exact g c =
+    all_sent c.new-pending.ensures c.put_typed.ensures.puts c.in-Ok.ensures.exact
 
-pub returns-else-put_typed-clause-cause : goal.returns-else-put_typed-clause-cause
-returns-else-put_typed-clause-cause g c = (fell c.if-put_typed.false c.put_typed.ensures).1
+pub returns-in-Err-clause-cause : goal.returns-in-Err-clause-cause
+returns-in-Err-clause-cause g c =
+    (some_sent c.new-pending.ensures c.put_typed.ensures.puts c.in-Err.ensures.cause).1
 
-pub returns-else-put_typed-clause-within : goal.returns-else-put_typed-clause-within
-returns-else-put_typed-clause-within g c = (fell c.if-put_typed.false c.put_typed.ensures).0
+pub returns-in-Err-clause-within : goal.returns-in-Err-clause-within
+returns-in-Err-clause-within g c =
+    (some_sent c.new-pending.ensures c.put_typed.ensures.puts c.in-Err.ensures.cause).0
+
+pub returns-in-Ok-clause-table : goal.returns-in-Ok-clause-table
+returns-in-Ok-clause-table g c = λ few.
+    typed_text_is_its_table c.args.signature.now c.args.structure.now c.requires.named
+    c.requires.well_formed (record { sizes = c.put_typed.ensures.numbers; members = few })
+
+pub returns-in-Err-clause-table : goal.returns-in-Err-clause-table
+returns-in-Err-clause-table g c = λ few.
+    typed_text_is_its_table c.args.signature.now c.args.structure.now c.requires.named
+    c.requires.well_formed (record { sizes = c.put_typed.ensures.numbers; members = few })

@@ -5,7 +5,7 @@ use Rattle.fof_models.specs.declared.problem.FofSymbol.{FofSymbol}
 use Rattle.fof_text.specs.Names.{wanted_names, chosen_names, AllDiffer}
 use Rattle.fof_text.specs.Uses.{IsChosen}
 use Rattle.fof_text.proofs.Choices.{AreChosen, passed, one_more, wanted-take, limit_is}
-use Rattle.fof_text.proofs.Choices.{chosen_differ, are_whole}
+use Rattle.fof_text.proofs.Choices.{chosen_differ, are_whole, length-chosen}
 use Rattle.fof_text.proofs.names.Names.choose.Goals as goal
 
 pub loop-i-preserved : goal.loop-i-preserved
@@ -52,3 +52,10 @@ returns-clause-exact c =
     let all = c.count_of-count.ensures.exact in
     are_whole c.args.signature.now c.loop-i.i c.loop-i.names c.loop-i.uses
     (omega (arith, past, all)) c.loop-i.invariant
+
+pub returns-clause-one_each : goal.returns-clause-one_each
+returns-clause-one_each c =
+    let past = c.loop-i-test.false in
+    let all = c.count_of-count.ensures.exact in
+    ap length (are_whole c.args.signature.now c.loop-i.i c.loop-i.names c.loop-i.uses
+    (omega (arith, past, all)) c.loop-i.invariant) ∙ length-chosen c.args.signature.now
