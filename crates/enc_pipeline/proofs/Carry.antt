@@ -1,6 +1,7 @@
 -- Models that are carried, by what the layers below make of them.
-use Rattle.std.proofs.Common.{◌≡◌, ◌≢◌, ℕ, zero, suc, ◌+◌, ◌<◌, ◌≤◌, ◌^◌, List, [], ◌∷◌, length, sum, slice_index, refl, sym, subst, ap, ◌∙◌, arith}
+use Rattle.std.proofs.Common.{◌≡◌, ◌≢◌, ℕ, suc, ◌<◌, ◌≤◌, ◌^◌, List, [], ◌∷◌, length, sum, slice_index, refl, subst, ap, ◌∙◌, arith}
 use Rattle.std.proofs.lemmas.List.Sums.{sum_by-cons}
+use Rattle.enc_base.specs.Counts.{most_entries}
 use Rattle.tf_core.specs.declared.normal.Normal.{Normal}
 use Rattle.tf_core.specs.Sound.{IsSound}
 use Rattle.tf_core.specs.TypedTables.{TypedTables, AreNormalModel}
@@ -9,7 +10,6 @@ use Rattle.tf_models.specs.Reading.{tables}
 use Rattle.tf_nnf.specs.NormalForm.{normal_of}
 use Rattle.tf_nnf.specs.Extension.{IsExtension, without_fresh}
 use Rattle.tf_nnf.specs.Laws.{GivesModel}
-use Rattle.tf_stamp.specs.Most.{most_entries}
 use Rattle.fof_models.specs.declared.structure.Structure.{Structure}
 use Rattle.fof_models.specs.Models.{AreModel}
 use Rattle.enc_marks.specs.declared.scheme.Scheme.{Scheme}
@@ -22,7 +22,7 @@ use Rattle.enc_models.specs.Lowered.{lowered, lowered_entries, IsRefused}
 use Rattle.enc_models.specs.LiftedTables.{lifted_tables, lifted_entries, IsLiftRefused}
 use Rattle.enc_pipeline.specs.Way.{Preparation}
 use Rattle.enc_pipeline.specs.Output.{translated}
-use Rattle.enc_pipeline.specs.Carried.{normal, choices, structure_of, lifted_model}
+use Rattle.enc_pipeline.specs.Carried.{normal, choices, structure_of}
 use Rattle.enc_pipeline.specs.Carrying.{IsLowered, IsNotLowered, IsLifted, IsNotLifted}
 use Rattle.enc_pipeline.specs.declared.fault.Fault.TheVariants as fault
 

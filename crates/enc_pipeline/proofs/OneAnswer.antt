@@ -1,16 +1,15 @@
 -- A table has at most one answer: the output that is written for it, or why there is none.
-use Rattle.std.proofs.Common.{◌≡◌, ℕ, ◌<◌, ◌≤◌, ◌⊎◌, inl, inr, List, Some, slice_get, refl, sym, subst, ap, ◌∙◌, arith}
+use Rattle.std.proofs.Common.{◌≡◌, ℕ, ◌<◌, ◌≤◌, ◌⊎◌, inl, inr, List, refl, sym, subst, ap, ◌∙◌, arith}
 use Rattle.std.proofs.lemmas.Bool.{false≢true}
+use Rattle.enc_base.specs.Counts.{most_entries, in_64_bits}
 use Rattle.tf_core.specs.declared.problem.Problem.{Problem}
 use Rattle.tf_core.specs.declared.problem.Stated.{Stated}
 use Rattle.tf_core.specs.TypedTables.{TypedTables, reading}
 use Rattle.tf_models.specs.declared.structure.TypedStructure.{TypedStructure}
-use Rattle.tf_models.specs.Evaluation.{in_64_bits}
 use Rattle.tf_models.specs.FirstFalse.{IsAsStated}
 use Rattle.tf_models.specs.Reading.{tables}
 use Rattle.tf_nnf.specs.Extension.{IsExtension}
 use Rattle.tf_nnf.proofs.Models.{model_has_one_extension}
-use Rattle.tf_stamp.specs.Most.{most_entries}
 use Rattle.fof_models.specs.declared.problem.FofFormula.{FofFormula}
 use Rattle.fof_models.specs.declared.structure.Structure.{Structure}
 use Rattle.fof_models.specs.Models.{IsSatisfied}

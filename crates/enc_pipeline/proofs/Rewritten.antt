@@ -2,6 +2,7 @@
 use Rattle.std.proofs.Common.{◌≡◌, ℕ, zero, suc, ◌+◌, ◌-◌, ◌≤◌, List, [], ◌∷◌, length, map, sum, take, replicate, refl, sym, subst, ap, ◌∙◌, arith}
 use Rattle.std.specs.Prelude.{sum_by}
 use Rattle.std.proofs.lemmas.List.Sums.{sum_by-cons}
+use Rattle.enc_base.specs.Counts.{most_entries}
 use Rattle.enc_base.specs.Tables.{tuple_count}
 use Rattle.enc_base.proofs.Tables.{length-blocks, length-table}
 use Rattle.tf_core.specs.declared.signature.Constructor.{Constructor}
@@ -11,13 +12,12 @@ use Rattle.tf_core.specs.Structures.{Typed, member_count, argument_sizes}
 use Rattle.tf_core.specs.TypedTables.{AreModel as AreTypedModel, AreNormalModel, IsWellFormed}
 use Rattle.tf_models.specs.Reading.{tables}
 use Rattle.tf_nnf.proofs.Models.{extension_is_model, reduct_is_model}
-use Rattle.tf_stamp.specs.Most.{most_entries}
 use Rattle.fof_models.specs.declared.problem.FofSymbol.{FofSymbol}
 use Rattle.fof_models.specs.declared.structure.Structure.{Structure}
 use Rattle.fof_models.specs.Models.{AreModel}
 use Rattle.fof_models.specs.Structures.{Untyped}
 use Rattle.fof_models.specs.Tabled as untyped_tabled
-use Rattle.structure_tables.specs.EntryCounts.{untyped_count, typed_count, symbol_count}
+use Rattle.structure_tables.specs.EntryCounts.{untyped_count, symbol_count}
 use Rattle.structure_tables.specs.TypedTabled.{constructor_table, constructor_tables, symbol_table, symbol_tables, symbol_block}
 use Rattle.structure_tables.proofs.ProductSums.{total-same}
 use Rattle.model_tables.specs.Typed as typed
@@ -26,8 +26,8 @@ use Rattle.model_tables.proofs.WrittenTables.{typed_text_is_its_table, untyped_t
 use Rattle.enc_marks.specs.declared.scheme.Scheme.{Scheme}
 use Rattle.enc_marks.specs.Encoded.{encoded}
 use Rattle.enc_marks.specs.Schemes.{choices_of}
-use Rattle.enc_models.specs.Lowered.{lowered, lowered_structure, lowered_entries}
-use Rattle.enc_models.specs.LiftedTables.{lifted_tables, lifted_structure, lifted_entries}
+use Rattle.enc_models.specs.Lowered.{lowered, lowered_structure}
+use Rattle.enc_models.specs.LiftedTables.{lifted_tables, lifted_structure}
 use Rattle.enc_guards.proofs.Models.{lowered_models_are_models, lifted_models_are_models}
 use Rattle.enc_pipeline.specs.Way.{Preparation}
 use Rattle.enc_pipeline.specs.Ready.{IsPrepared}

@@ -1,5 +1,5 @@
 -- How calls end that write an output.
-use Rattle.std.proofs.Common.{◌≡◌, ◌≢◌, ℕ, List, Option, Some, None, refl}
+use Rattle.std.proofs.Common.{ℕ, List, Option, Some, None, refl}
 use Rattle.std.specs.Io.KnownBytes.{Keeps}
 use Rattle.enc_pipeline.specs.declared.fault.Fault.{Fault}
 use Rattle.enc_pipeline.specs.declared.fault.Fault.TheVariants.{Write, Memory}
@@ -10,9 +10,10 @@ kept None = tt
 kept (Some bytes) = refl
 
 -- before the first write nothing is written, and the fault is none of a write
-pub stopped_before : (Refuses : Fault → Type 0) (Writes : List ℕ → Type 0) (Failed : Type 0)
-    (bytes : Option (List ℕ)) (reason : Fault) → (Refuses Write → ⊥) → UnlessMemory Refuses reason →
-    IsStopped Refuses Writes Failed bytes bytes reason
-stopped_before Refuses Writes Failed bytes Write none why = absurd (none (why (λ same. cc)))
-stopped_before Refuses Writes Failed bytes Memory none why = kept bytes
-stopped_before Refuses Writes Failed bytes reason none why = (why (λ same. cc), kept bytes)
+pub stopped_before : (Refuses : Fault → Type 0) (Writes : List ℕ → Type 0)
+    (bytes : Option (List ℕ)) (faults : ℕ) (reason : Fault) → (Refuses Write → ⊥) →
+    UnlessMemory Refuses reason →
+    IsStopped Refuses Writes bytes bytes faults faults reason
+stopped_before Refuses Writes bytes faults Write none why = absurd (none (why (λ same. cc)))
+stopped_before Refuses Writes bytes faults Memory none why = (kept bytes, refl)
+stopped_before Refuses Writes bytes faults reason none why = (why (λ same. cc), kept bytes, refl)

@@ -1,21 +1,19 @@
 -- Models that are read from tables, carried to the other side, and written as tables.
 use Rattle.std.specs.Prelude.{ℕ, ◌<◌, ◌≤◌, ◌≡◌, ◌≢◌, List, codes}
+use Rattle.enc_base.specs.Counts.{most_entries, in_64_bits}
 use Rattle.tf_core.specs.declared.problem.Problem.{Problem}
 use Rattle.tf_core.specs.declared.normal.Normal.{Normal}
 use Rattle.tf_core.specs.TypedTables.{TypedTables, AreModel, reading}
 use Rattle.tf_models.specs.declared.structure.TypedStructure.{TypedStructure}
-use Rattle.tf_models.specs.Evaluation.{in_64_bits}
 use Rattle.tf_models.specs.FirstFalse.{IsFirstFalse}
 use Rattle.tf_models.specs.Reading.{tables}
 use Rattle.tf_nnf.specs.Extension.{IsExtension, without_fresh}
 use Rattle.tf_nnf.specs.NormalForm.{normal_of}
-use Rattle.tf_stamp.specs.Most.{most_entries}
 use Rattle.fof_models.specs.declared.problem.FofProblem.{FofProblem}
 use Rattle.fof_models.specs.declared.structure.Structure.{Structure}
 use Rattle.fof_models.specs.Models as untyped_models
 use Rattle.fof_models.specs.Structures as untyped_structures
 use Rattle.fof_text.specs.Names.{chosen_names}
-use Rattle.model_tables.specs.declared.error.TableError.{TableError}
 use Rattle.model_tables.specs.declared.error.TableError.TheVariants as table_error
 use Rattle.model_tables.specs.Refusals.{IsRefused}
 use Rattle.model_tables.specs.Typed as typed

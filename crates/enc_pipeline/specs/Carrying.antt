@@ -1,11 +1,11 @@
 -- What is made of a model on the way from one table to another.
 use Rattle.std.specs.Prelude.{ℕ, ◌≤◌, ◌≡◌, List}
+use Rattle.enc_base.specs.Counts.{most_entries}
 use Rattle.tf_core.specs.TypedTables.{TypedTables}
 use Rattle.tf_core.specs.TypedTables as typed_models
 use Rattle.tf_models.specs.declared.structure.TypedStructure.{TypedStructure}
 use Rattle.tf_models.specs.Reading.{tables}
 use Rattle.tf_nnf.specs.Extension.{IsExtension}
-use Rattle.tf_stamp.specs.Most.{most_entries}
 use Rattle.fof_models.specs.declared.structure.Structure.{Structure}
 use Rattle.fof_models.specs.Models as untyped_models
 use Rattle.enc_marks.specs.declared.refusal.Refusal.TheVariants as refusal

@@ -1,11 +1,12 @@
 -- Why a problem can't be read or prepared. Want of memory may come anywhere.
 use Rattle.std.specs.Prelude.{ℕ, ◌<◌, ◌≤◌, ◌≡◌, List, ◌∷◌, Ok, Err}
+use Rattle.enc_base.specs.Counts.{in_64_bits}
 use Rattle.tptp_syntax.specs.declared.entry.File.{File}
 use Rattle.tptp_syntax.specs.Files.{Verdict}
 use Rattle.tf_check.specs.declared.error.TypeError.{TypeError}
 use Rattle.tf_check.specs.Faults.{faults}
 use Rattle.tf_core.specs.declared.problem.Problem.{Problem}
-use Rattle.tf_nnf.specs.Nodes.{normal_nodes, in_64_bits}
+use Rattle.tf_nnf.specs.Nodes.{normal_nodes}
 use Rattle.tf_nnf.specs.NormalForm.{normal_of}
 use Rattle.tf_nnf.specs.Refusal.{most_nodes}
 use Rattle.enc_marks.specs.declared.refusal.Refusal.{Refusal}

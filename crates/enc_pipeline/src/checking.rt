@@ -1,12 +1,11 @@
 ghost use Rattle.std.specs.Prelude.{◌≡◌, ◌≤◌, ◌<◌, ◌^◌, ◌↔◌, ℕ, List, length, None, OnOk, IfOk, IfErr, IfSome};
 ghost use Rattle.std.specs.Io.KnownBytes.{Appends};
-ghost use Rattle.enc_base.specs.Counts.{Rose};
+ghost use Rattle.enc_base.specs.Counts.{most_entries};
 ghost use Rattle.tf_core.specs.Sound.{IsSound};
 ghost use Rattle.tf_core.specs.TypedTables.{reading, IsWellFormed, AreModel};
 ghost use Rattle.tf_models.specs.declared.structure.TypedStructure.{TypedStructure};
 ghost use Rattle.tf_models.specs.Reading.{tables};
 ghost use Rattle.tf_models.specs.FirstFalse.{IsFirstFalse};
-ghost use Rattle.tf_stamp.specs.Most.{most_entries};
 ghost use Rattle.model_tables.specs.Typed.{IsTypedTable, structure_entries};
 ghost use Rattle.enc_pipeline.specs.Carried.{IsTableOfModel, IsNoModel, IsCheckedTo, model_line};
 ghost use Rattle.enc_pipeline.specs.Distinct.{HasDistinctNames};
@@ -90,8 +89,8 @@ pub fn check_file<O: Sink>(
     ensures model { OnOk result ((model : TypedStructure) × IsTableOfModel table.now problem.now model) }
     ensures stopped { IfErr result (IsStopped (IsNoModel problem.now table.now)
         (IsCheckedTo problem.now table.now)
-        (Rose (O.faults out.old) (O.faults out.new))
-        (O.bytes out.old) (O.bytes out.new)) }
+        (O.bytes out.old) (O.bytes out.new)
+        (O.faults out.old) (O.faults out.new)) }
 {
     typed_model(alloc, problem, table)?;
     match out.write(b"model\n") {

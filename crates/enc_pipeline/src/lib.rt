@@ -12,8 +12,6 @@ mod output;
 mod prepared;
 mod reading;
 mod schemes;
-#[cfg(test)]
-mod tests;
 
 pub use checking::check_file;
 pub use fault::Fault;

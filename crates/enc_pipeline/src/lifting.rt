@@ -1,7 +1,6 @@
 ghost use Rattle.std.specs.Prelude.{◌≡◌, ◌≤◌, ◌↔◌, ℕ, List, None, OnOk, IfOk, IfErr, IfSome};
 ghost use Rattle.std.specs.Io.KnownBytes.{Appends};
-ghost use Rattle.enc_base.specs.Counts.{Rose};
-ghost use Rattle.tf_stamp.specs.Most.{most_entries};
+ghost use Rattle.enc_base.specs.Counts.{most_entries};
 ghost use Rattle.fof_models.specs.Models.{AreModel, IsFirstFalse};
 ghost use Rattle.fof_models.specs.Structures.{reading, IsWellFormed};
 ghost use Rattle.model_tables.specs.Untyped.{IsUntypedTable, structure_entries};
@@ -103,8 +102,8 @@ pub fn lift_file<O: Sink>(
         × Appends (O.bytes out.old) (O.bytes out.new) output) }
     ensures stopped { IfErr result (IsStopped (IsUnlifted prepared.now table.now)
         (IsLiftedTo prepared.now table.now)
-        (Rose (O.faults out.old) (O.faults out.new))
-        (O.bytes out.old) (O.bytes out.new)) }
+        (O.bytes out.old) (O.bytes out.new)
+        (O.faults out.old) (O.faults out.new)) }
 {
     let structure = lifted_from(alloc, prepared, table)?;
     match write_typed(&structure, &prepared.problem().signature, out) {

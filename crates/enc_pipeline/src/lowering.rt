@@ -1,6 +1,5 @@
 ghost use Rattle.std.specs.Prelude.{◌≡◌, ◌<◌, ◌^◌, ℕ, List, length, OnOk, IfOk, IfErr};
 ghost use Rattle.std.specs.Io.KnownBytes.{Appends};
-ghost use Rattle.enc_base.specs.Counts.{Rose};
 ghost use Rattle.tf_core.specs.TypedTables.{AreModel, AreNormalModel};
 ghost use Rattle.tf_models.specs.Reading.{tables};
 ghost use Rattle.tf_nnf.specs.Extension.{IsExtension};
@@ -84,8 +83,8 @@ pub fn lower_file<O: Sink>(
         × Appends (O.bytes out.old) (O.bytes out.new) output) }
     ensures stopped { IfErr result (IsStopped (IsUnlowered prepared.now table.now)
         (IsLoweredTo prepared.now table.now)
-        (Rose (O.faults out.old) (O.faults out.new))
-        (O.bytes out.old) (O.bytes out.new)) }
+        (O.bytes out.old) (O.bytes out.new)
+        (O.faults out.old) (O.faults out.new)) }
 {
     let structure = lowered_from(alloc, prepared, table)?;
     match write_untyped(

@@ -7,10 +7,10 @@ ghost use Rattle.fof_text.specs.States.{AreNamed};
 ghost use Rattle.fof_text.specs.Written.{text_of};
 ghost use Rattle.enc_pipeline.specs.Output as specs;
 
-use enc_base::{Failed, Sink};
+use enc_base::{Failed, Pending, Sink};
 use enc_marks::Scheme;
 use fof_models::FofProblem;
-use fof_text::{Names, write_problem};
+use fof_text::{Names, put_problem};
 
 /// The first line of an output: a comment that names the scheme.
 #[tactic(auto, unfolding(crate::specs::Output::first_line))]
@@ -44,11 +44,8 @@ pub fn write_output<O: Sink>(
         (specs.first_line which.now ++ text_of names.now problem.now)) }
     ensures cause { OnErr result (Rose (O.faults out.old) (O.faults out.new)) }
 {
-    match out.write(first_line(which)) {
-        Ok(()) => match write_problem(problem, names, out) {
-            Ok(()) => Ok(()),
-            Err(_) => Err(Failed),
-        },
-        Err(_) => Err(Failed),
-    }
+    let mut pending = Pending::new();
+    pending.put(first_line(which), out);
+    put_problem(problem, names, &mut pending, out);
+    pending.finish(out)
 }

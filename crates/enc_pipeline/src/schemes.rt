@@ -1,11 +1,11 @@
 //! The schemes, each by its own crate.
 
 ghost use Rattle.std.specs.Prelude.{◌≡◌, ◌≤◌, ◌<◌, ◌^◌, length, IfOk, IfErr};
+ghost use Rattle.enc_base.specs.Counts.{most_entries};
 ghost use Rattle.tf_core.specs.Sound.{IsSoundNormal};
 ghost use Rattle.tf_core.specs.TypedTables.{AreNormalModel};
 ghost use Rattle.tf_models.specs.Reading.{tables};
 ghost use Rattle.fof_models.specs.Models.{AreModel};
-ghost use Rattle.tf_stamp.specs.Most.{most_entries};
 ghost use Rattle.enc_marks.specs.Encoded as encoding;
 ghost use Rattle.enc_marks.specs.Schemes.{choices_of};
 ghost use Rattle.enc_models.specs.Lowered.{lowered, lowered_entries, IsRefused};

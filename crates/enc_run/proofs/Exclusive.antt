@@ -1,6 +1,7 @@
 -- The texts of a job lead to one thing alone: they are refused for one reason, the task isn't built
 -- for them, or they have an output.
 use Rattle.std.proofs.Common.{◌≡◌, ◌<◌, ◌≤◌, ◌∙◌, ℕ, true, List, [], ◌∷◌, Ok, Err, sym, ap, subst, arith}
+use Rattle.enc_base.specs.Counts.{in_64_bits}
 use Rattle.tptp_syntax.specs.declared.entry.File.{File}
 use Rattle.tptp_syntax.specs.declared.error.ReadError.{ReadError}
 use Rattle.tptp_syntax.specs.Files.{Verdict}
@@ -10,7 +11,6 @@ use Rattle.tf_check.specs.Typing.{IsTyped}
 use Rattle.tf_check.proofs.FileGives.{typed-faults, typed-problem_of}
 use Rattle.tptp_syntax.proofs.Verdicts.{one_verdict}
 use Rattle.tf_core.specs.declared.problem.Problem.{Problem}
-use Rattle.tf_nnf.specs.Nodes.{in_64_bits}
 use Rattle.tf_nnf.specs.Refusal.{most_nodes}
 use Rattle.enc_pipeline.specs.declared.fault.Fault.{Fault}
 use Rattle.enc_pipeline.specs.declared.fault.Fault.TheVariants as fault

@@ -18,5 +18,6 @@ pub mod RunEndings
 pub mod TableLaws
 pub mod Told
 pub mod Statuses
+pub mod Begun
 pub mod Noted
 pub mod TablePromises

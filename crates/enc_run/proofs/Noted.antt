@@ -1,13 +1,12 @@
 -- What a run promises of its notes follows from how it ended.
 use Rattle.std.proofs.Common.{◌≡◌, ◌++◌, ℕ, List, Option, Ok, Err, subst, arith}
-use Rattle.std.specs.Io.KnownBytes.{Appends}
 use Rattle.enc_base.specs.Library.{IsHeld}
 use Rattle.enc_pipeline.specs.declared.fault.Fault.{Fault}
 use Rattle.enc_run.specs.Ending.{EndsBy, IsRefused, IsInput, status_at, Noted}
-use Rattle.enc_run.specs.Note.{program_word, line, not_built, cannot_read, cannot_write, no_memory}
-use Rattle.enc_run.specs.Promises.{IsOfRefusal, NotesHold, Adds}
+use Rattle.enc_run.specs.Note.{line, not_built, cannot_read, cannot_write, no_memory, IsNoteOf, Notes}
+use Rattle.enc_run.specs.Promises.{IsOfRefusal, NotesHold}
 use Rattle.enc_run.specs.Refusals.{status_of, number_of}
-use Rattle.enc_run.specs.Work.{Change, Work, Rises, OwnRises}
+use Rattle.enc_run.specs.Work.{Change, Work, OwnRises, Adds}
 use Rattle.enc_run.specs.declared.stop.Stop.TheVariants.{NotBuilt, Unread, Refused, Unwritten, Memory}
 use Rattle.enc_run.proofs.Statuses.{End, not_refusal, only_refused}
 
@@ -22,70 +21,71 @@ module _ (w : Work) (notes : Change (Option (List ℕ))) (notes_faults : Change 
   noted_none (Err Unwritten) ends noted is = absurd (omega arith)
   noted_none (Err Memory) ends noted is = absurd (omega arith)
 
-  adds : (text note : List ℕ) → note ≡ line text → Appends notes.before notes.after note
-      → Adds notes text
-  adds text note is appends = subst (λ n. Appends notes.before notes.after n) is appends
+  -- the note that was added
+  added : (text note : List ℕ) → note ≡ text → Adds notes notes_faults note
+      → Adds notes notes_faults text
+  added text note is adds = subst (λ n. Adds notes notes_faults n) is adds
 
   noted_unbuilt : (end : End) → EndsBy w end → Noted end notes notes_faults → status_at end ≡ 9
-      → (Rises notes_faults → ⊥) → Adds notes not_built
-  noted_unbuilt (Ok done) ends noted is calm = absurd (omega arith)
-  noted_unbuilt (Err NotBuilt) ends noted is calm =
-      let note = noted calm in adds not_built note.0 note.1 note.2
-  noted_unbuilt (Err (Unread name)) ends noted is calm = absurd (omega arith)
-  noted_unbuilt (Err (Refused reason)) ends noted is calm =
+      → Adds notes notes_faults (line not_built)
+  noted_unbuilt (Ok done) ends noted is = absurd (omega arith)
+  noted_unbuilt (Err NotBuilt) ends noted is = added (line not_built) noted.0 noted.1 noted.2
+  noted_unbuilt (Err (Unread name)) ends noted is = absurd (omega arith)
+  noted_unbuilt (Err (Refused reason)) ends noted is =
       absurd (not_refusal w reason 9 ends.0 is (λ low high. omega arith))
-  noted_unbuilt (Err Unwritten) ends noted is calm = absurd (omega arith)
-  noted_unbuilt (Err Memory) ends noted is calm = absurd (omega arith)
+  noted_unbuilt (Err Unwritten) ends noted is = absurd (omega arith)
+  noted_unbuilt (Err Memory) ends noted is = absurd (omega arith)
 
   noted_unwritten : (end : End) → EndsBy w end → Noted end notes notes_faults → status_at end ≡ 7
-      → (Rises notes_faults → ⊥) → Adds notes cannot_write
-  noted_unwritten (Ok done) ends noted is calm = absurd (omega arith)
-  noted_unwritten (Err NotBuilt) ends noted is calm = absurd (omega arith)
-  noted_unwritten (Err (Unread name)) ends noted is calm = absurd (omega arith)
-  noted_unwritten (Err (Refused reason)) ends noted is calm =
+      → Adds notes notes_faults (line cannot_write)
+  noted_unwritten (Ok done) ends noted is = absurd (omega arith)
+  noted_unwritten (Err NotBuilt) ends noted is = absurd (omega arith)
+  noted_unwritten (Err (Unread name)) ends noted is = absurd (omega arith)
+  noted_unwritten (Err (Refused reason)) ends noted is =
       absurd (not_refusal w reason 7 ends.0 is (λ low high. omega arith))
-  noted_unwritten (Err Unwritten) ends noted is calm =
-      let note = noted calm in adds cannot_write note.0 note.1 note.2
-  noted_unwritten (Err Memory) ends noted is calm = absurd (omega arith)
+  noted_unwritten (Err Unwritten) ends noted is =
+      added (line cannot_write) noted.0 noted.1 noted.2
+  noted_unwritten (Err Memory) ends noted is = absurd (omega arith)
 
   noted_memory : (end : End) → EndsBy w end → Noted end notes notes_faults → status_at end ≡ 8
-      → (Rises notes_faults → ⊥) → Adds notes no_memory
-  noted_memory (Ok done) ends noted is calm = absurd (omega arith)
-  noted_memory (Err NotBuilt) ends noted is calm = absurd (omega arith)
-  noted_memory (Err (Unread name)) ends noted is calm = absurd (omega arith)
-  noted_memory (Err (Refused reason)) ends noted is calm =
+      → Adds notes notes_faults (line no_memory)
+  noted_memory (Ok done) ends noted is = absurd (omega arith)
+  noted_memory (Err NotBuilt) ends noted is = absurd (omega arith)
+  noted_memory (Err (Unread name)) ends noted is = absurd (omega arith)
+  noted_memory (Err (Refused reason)) ends noted is =
       absurd (not_refusal w reason 8 ends.0 is (λ low high. omega arith))
-  noted_memory (Err Unwritten) ends noted is calm = absurd (omega arith)
-  noted_memory (Err Memory) ends noted is calm =
-      let note = noted calm in adds no_memory note.0 note.1 note.2
+  noted_memory (Err Unwritten) ends noted is = absurd (omega arith)
+  noted_memory (Err Memory) ends noted is = added (line no_memory) noted.0 noted.1 noted.2
 
   noted_unread : (end : End) → EndsBy w end → Noted end notes notes_faults → status_at end ≡ 6
-      → (Rises notes_faults → ⊥)
       → (name : List ℕ) × IsInput w name × (IsHeld w.held name → OwnRises w name)
-      × Adds notes (cannot_read ++ name)
-  noted_unread (Ok done) ends noted is calm = absurd (omega arith)
-  noted_unread (Err NotBuilt) ends noted is calm = absurd (omega arith)
-  noted_unread (Err (Unread name)) ends noted is calm =
-      let note = noted calm in
-      (name, ends.0.0, ends.0.1.own, adds (cannot_read ++ name) note.0 note.1 note.2)
-  noted_unread (Err (Refused reason)) ends noted is calm =
+      × Adds notes notes_faults (line (cannot_read ++ name))
+  noted_unread (Ok done) ends noted is = absurd (omega arith)
+  noted_unread (Err NotBuilt) ends noted is = absurd (omega arith)
+  noted_unread (Err (Unread name)) ends noted is = (
+    name,
+    ends.0.0,
+    ends.0.1.own,
+    added (line (cannot_read ++ name)) noted.0 noted.1 noted.2,
+  )
+  noted_unread (Err (Refused reason)) ends noted is =
       absurd (not_refusal w reason 6 ends.0 is (λ low high. omega arith))
-  noted_unread (Err Unwritten) ends noted is calm = absurd (omega arith)
-  noted_unread (Err Memory) ends noted is calm = absurd (omega arith)
+  noted_unread (Err Unwritten) ends noted is = absurd (omega arith)
+  noted_unread (Err Memory) ends noted is = absurd (omega arith)
 
   noted_refused : (end : End) → EndsBy w end → Noted end notes notes_faults
-      → IsOfRefusal (status_at end) → (Rises notes_faults → ⊥)
+      → IsOfRefusal (status_at end)
       → (reason : Fault) × IsRefused w reason × (status_of reason ≡ status_at end)
-      × ((rest : List ℕ)
-      × Appends notes.before notes.after (program_word ++ (number_of reason ++ rest)))
-  noted_refused end ends noted is calm =
+      × ((rest : List ℕ) × Adds notes notes_faults (line (number_of reason ++ rest)))
+  noted_refused end ends noted is =
       let refused = only_refused w end ends is in
-      let note = subst (λ e. Noted e notes notes_faults) refused.3 noted calm in
-      let rest = note.1 in (
+      let note : Notes (Refused refused.0) notes notes_faults =
+      subst (λ e. Noted e notes notes_faults) refused.3 noted in
+      let rest : IsNoteOf (Refused refused.0) note.0 = note.1 in (
         refused.0,
         refused.1,
         refused.2,
-        (rest.0, subst (λ n. Appends notes.before notes.after n) rest.1 note.2),
+        (rest.0, added (line (number_of refused.0 ++ rest.0)) note.0 rest.1 note.2),
       )
 
   pub notes_of : (end : End) → EndsBy w end → Noted end notes notes_faults

@@ -1,6 +1,6 @@
 -- What a run promises of its status and its output follows from how it ended.
 use Rattle.std.proofs.Common.{◌≡◌, ◌⊎◌, inl, inr, ℕ, List, Option, Some, None, Ok, Err, refl, ap, subst, arith}
-use Rattle.std.specs.Io.KnownBytes.{Appends, Keeps}
+use Rattle.std.specs.Io.KnownBytes.{Appends}
 use Rattle.enc_base.specs.Library.{Files, IsHeld}
 use Rattle.enc_base.specs.Sink.{AppendsPrefix}
 use Rattle.enc_pipeline.specs.declared.fault.Fault.{Fault}
@@ -9,7 +9,8 @@ use Rattle.enc_run.specs.Job.{table_name}
 use Rattle.enc_run.specs.Leads.{IsRefusedBy, IsTableRefusedBy, IsUnbuilt, IsAcceptable, IsOutputOf}
 use Rattle.enc_run.specs.Promises.{IsOrMemory, Complete, NotBuiltExactly, RefusedExactly, UnreadOnly, UnheldIsUnread, UnwrittenOnly, IsStatus, OutHolds, NotesHold}
 use Rattle.enc_run.specs.Refusals.{status_of}
-use Rattle.enc_run.specs.Work.{Change, Work, HasTable, OwnRises, IsTold, AreTold, NoneFails}
+use Rattle.enc_run.specs.Work.{Change, Work, Untouched, HasTable, OwnRises, IsTold, AreTold}
+use Rattle.enc_run.specs.Work.{NoneFails}
 use Rattle.enc_run.specs.declared.job.Job.{Job}
 use Rattle.enc_run.specs.declared.job.Task.{Task}
 use Rattle.enc_run.specs.declared.stop.Stop.TheVariants.{NotBuilt, Unread, Refused, Unwritten, Memory}
@@ -40,14 +41,14 @@ prefix w (Err (Refused reason)) ends is =
 prefix w (Err Unwritten) ends is = ends.0.0
 prefix w (Err Memory) ends is = absurd (omega arith)
 
-kept : (w : Work) (end : End) → EndsBy w end → (status_at end ≡ 0 → ⊥) → (status_at end ≡ 7 → ⊥)
-    → Keeps w.out.before w.out.after
-kept w (Ok done) ends not_done not_failed = absurd (not_done refl)
-kept w (Err NotBuilt) ends not_done not_failed = ends.1
-kept w (Err (Unread name)) ends not_done not_failed = ends.1
-kept w (Err (Refused reason)) ends not_done not_failed = ends.1
-kept w (Err Unwritten) ends not_done not_failed = absurd (not_failed refl)
-kept w (Err Memory) ends not_done not_failed = ends.1
+untouched : (w : Work) (end : End) → EndsBy w end → (status_at end ≡ 0 → ⊥)
+    → (status_at end ≡ 7 → ⊥) → Untouched w.out w.out_faults
+untouched w (Ok done) ends not_done not_failed = absurd (not_done refl)
+untouched w (Err NotBuilt) ends not_done not_failed = ends.1
+untouched w (Err (Unread name)) ends not_done not_failed = ends.1
+untouched w (Err (Refused reason)) ends not_done not_failed = ends.1
+untouched w (Err Unwritten) ends not_done not_failed = absurd (not_failed refl)
+untouched w (Err Memory) ends not_done not_failed = ends.1
 
 -- ---- failing files and output
 
@@ -318,7 +319,7 @@ module _
     out_holds = at_status (OutHolds w) (record {
       whole = whole w ended.end ended.ends;
       prefix = prefix w ended.end ended.ends;
-      kept = kept w ended.end ended.ends;
+      untouched = untouched w ended.end ended.ends;
     })
 
     pub notes_hold : NotesHold w notes notes_faults status

@@ -1,13 +1,12 @@
 -- How a run ends whose task is seen from the read of the problem's text on.
-use Rattle.std.proofs.Common.{◌≡◌, ◌≤◌, ◌<◌, ◌⊎◌, ◌∙◌, inl, inr, ℕ, List, Option, Some, None, is_some, Result, Ok, Err, refl, sym, ap, subst, arith}
+use Rattle.std.proofs.Common.{◌≡◌, ◌≤◌, ◌∙◌, inl, inr, ℕ, List, Option, Some, None, is_some, Result, Ok, Err, sym, ap, subst, arith}
 use Rattle.std.specs.Prelude.{[]}
-use Rattle.std.specs.Io.KnownBytes.{Keeps}
 use Rattle.enc_base.specs.Counts.{Rose, one_more}
 use Rattle.enc_base.specs.Library.{Files, Gives, IsHeld}
 use Rattle.enc_run.specs.Ending.{EndsBy, Fails, IsUnread, ReadsAsNeeded}
 use Rattle.enc_run.specs.Job.{table_name}
 use Rattle.enc_run.specs.Parts.{TextEnds, ReadsTable}
-use Rattle.enc_run.specs.Work.{Change, Work, Rises, OwnRises, HasText, HasTable, OfName}
+use Rattle.enc_run.specs.Work.{Work, Rises, OwnRises, Untouched, GoesOn, HasText, HasTable, OfName}
 use Rattle.enc_run.specs.declared.job.Job.{Job}
 use Rattle.enc_run.specs.declared.stop.Stop.{Stop}
 use Rattle.enc_run.specs.declared.stop.Stop.TheVariants.{NotBuilt, Unread, Refused, Unwritten, Memory}
@@ -41,7 +40,7 @@ module _ (w : Work) (job : Job) (is_job : w.job ≡ Some job) where
   pub problem_unread : (stop : Stop)
       → IsUnread job.problem (Rises w.faults)
       (IsHeld w.held job.problem → OwnRises w job.problem) stop
-      → w.reads.after ≡ one_more w.reads.before → Keeps w.out.before w.out.after
+      → w.reads.after ≡ one_more w.reads.before → Untouched w.out w.out_faults
       → EndsBy w (Err stop)
   problem_unread NotBuilt why counted kept = absurd why
   problem_unread (Unread unread) why counted kept =
@@ -124,6 +123,15 @@ module _ (w : Work) (job : Job) (is_job : w.job ≡ Some job) where
       tt,
     )
     run_ends later own_later (Err Memory) ends = (tt, ends)
+
+    -- the files stay, and no count falls, if neither did from there on
+    pub run_goes : w.faults.before ≤ faults → ((name : List ℕ) → w.own.before name ≤ own name)
+        → (held_after : Option Files) → GoesOn rest held_after → GoesOn w held_after
+    run_goes later own_later held_after goes = record {
+      same_files = goes.same_files ∙ same_files;
+      later = omega (arith, later, goes.later);
+      own_later = λ name. omega (arith, own_later name, goes.own_later name);
+    }
 
     pub run_reads : reads ≡ one_more w.reads.before → ReadsTable job.task text rest
         → ReadsAsNeeded w

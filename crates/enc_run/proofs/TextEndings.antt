@@ -1,7 +1,7 @@
 -- How the end of a part of a task on a problem's text makes the end of the task.
 use Rattle.std.proofs.Common.{◌≡◌, ◌∙◌, inl, inr, ℕ, List, Option, Some, Result, Ok, Err, true, refl, sym, ap, subst}
 use Rattle.std.specs.Prelude.{[], IsErr, IsErrAnd}
-use Rattle.std.specs.Io.KnownBytes.{Appends, Keeps}
+use Rattle.std.specs.Io.KnownBytes.{Appends}
 use Rattle.enc_base.specs.Library.{IsHeld}
 use Rattle.tf_core.specs.declared.problem.Problem.{Problem}
 use Rattle.enc_marks.specs.declared.refusal.Refusal.TheVariants as refusal
@@ -21,7 +21,7 @@ use Rattle.enc_run.specs.Leads.{is_taken, is_normalised, IsAccepted, IsAcceptabl
 use Rattle.enc_run.specs.Leads.{RefusesTable, Writes, preparation, untyped_problem}
 use Rattle.enc_run.specs.Parts.{ProblemEnds, IsWritten, EncodingEnds, HasPrepared, TextStops, TextEnds}
 use Rattle.enc_run.specs.Stop.{stop_of}
-use Rattle.enc_run.specs.Work.{Change, Work, Rises, OwnRises, HasText, HasTable}
+use Rattle.enc_run.specs.Work.{Change, Work, Rises, OwnRises, Untouched, HasText, HasTable}
 use Rattle.enc_run.specs.declared.job.Task.{Task}
 use Rattle.enc_run.specs.declared.job.Task.TheVariants.{Encode, Check, Lower, Lift}
 use Rattle.enc_run.specs.declared.stop.Stop.{Stop}
@@ -70,7 +70,7 @@ module _ (task : Task) (text : List ℕ) (problem : Problem) (has : HasProblem t
 
 module _ (task : Task) (text : List ℕ) (w : Work) where
   -- the task is stopped by its problem's text
-  pub text_stopped : (stop : Stop) → TextStops task text stop → Keeps w.out.before w.out.after
+  pub text_stopped : (stop : Stop) → TextStops task text stop → Untouched w.out w.out_faults
       → TextEnds task text w (Err stop)
   text_stopped NotBuilt stops kept = (stops, kept)
   text_stopped (Unread name) stops kept = absurd stops
@@ -81,7 +81,7 @@ module _ (task : Task) (text : List ℕ) (w : Work) where
   -- the task is stopped by the read of its table
   pub table_unread : (name : List ℕ) → table_name task ≡ Some name → IsAcceptable task text
       → (stop : Stop) → IsUnread name (Rises w.faults) (IsHeld w.held name → OwnRises w name) stop
-      → Keeps w.out.before w.out.after → TextEnds task text w (Err stop)
+      → Untouched w.out w.out_faults → TextEnds task text w (Err stop)
   table_unread name is accepted NotBuilt why kept = absurd why
   table_unread name is accepted (Unread unread) why kept =
       let same = sym why.0 in (
@@ -99,22 +99,22 @@ module _ (task : Task) (text : List ℕ) (w : Work) where
     -- the task is stopped by its table, or in writing
     pub table_stopped : (reason : Fault)
         → IsStopped (RefusesTable task problem table) (Writes task problem table)
-        (Rises w.out_faults) w.out.before w.out.after reason
+        w.out.before w.out.after w.out_faults.before w.out_faults.after reason
         → TextEnds task text w (Err (stop_of reason))
     table_stopped (fault.Reading reason) stopped =
-        (inr (table, has, (problem, accepted, stopped.0)), stopped.1)
+        (inr (table, has, (problem, accepted, stopped.0)), (stopped.1, stopped.2))
     table_stopped (fault.Typing reason) stopped =
-        (inr (table, has, (problem, accepted, stopped.0)), stopped.1)
+        (inr (table, has, (problem, accepted, stopped.0)), (stopped.1, stopped.2))
     table_stopped (fault.TooLarge nodes) stopped =
-        (inr (table, has, (problem, accepted, stopped.0)), stopped.1)
+        (inr (table, has, (problem, accepted, stopped.0)), (stopped.1, stopped.2))
     table_stopped (fault.Scheme reason) stopped =
-        (inr (table, has, (problem, accepted, stopped.0)), stopped.1)
+        (inr (table, has, (problem, accepted, stopped.0)), (stopped.1, stopped.2))
     table_stopped fault.Incomplete stopped =
-        (inr (table, has, (problem, accepted, stopped.0)), stopped.1)
+        (inr (table, has, (problem, accepted, stopped.0)), (stopped.1, stopped.2))
     table_stopped (fault.Table reason) stopped =
-        (inr (table, has, (problem, accepted, stopped.0)), stopped.1)
+        (inr (table, has, (problem, accepted, stopped.0)), (stopped.1, stopped.2))
     table_stopped (fault.NotModel formula) stopped =
-        (inr (table, has, (problem, accepted, stopped.0)), stopped.1)
+        (inr (table, has, (problem, accepted, stopped.0)), (stopped.1, stopped.2))
     table_stopped fault.Write stopped =
         (stopped.1.0, (table, has, (problem, accepted, stopped.1.1)), stopped.1.2, stopped.0)
     table_stopped fault.Memory stopped = stopped
@@ -144,13 +144,13 @@ module _ (which : Scheme) (name text : List ℕ) (p : Preparation) (is : HasPrep
 
     module _ (w : Work) (table : List ℕ) (has : HasText w name table) where
       pub lowering_stopped : (reason : Fault)
-          → IsStopped (IsUnlowered p table) (IsLoweredTo p table) (Rises w.out_faults)
-          w.out.before w.out.after reason
+          → IsStopped (IsUnlowered p table) (IsLoweredTo p table) w.out.before w.out.after
+          w.out_faults.before w.out_faults.after reason
           → TextEnds (Lower name which) text w (Err (stop_of reason))
       lowering_stopped reason stopped =
           table_stopped (Lower name which) text w is.problem lowered table has reason
-          (subst (λ q. IsStopped (IsUnlowered q table) (IsLoweredTo q table) (Rises w.out_faults)
-          w.out.before w.out.after reason) is.is stopped)
+          (subst (λ q. IsStopped (IsUnlowered q table) (IsLoweredTo q table)
+          w.out.before w.out.after w.out_faults.before w.out_faults.after reason) is.is stopped)
 
       pub lowering_done : (output : List ℕ) → IsLoweredTo p table output
           → Appends w.out.before w.out.after output → TextEnds (Lower name which) text w (Ok tt)
@@ -159,13 +159,13 @@ module _ (which : Scheme) (name text : List ℕ) (p : Preparation) (is : HasPrep
           (subst (λ q. IsLoweredTo q table output) is.is carried) written
 
       pub lifting_stopped : (reason : Fault)
-          → IsStopped (IsUnlifted p table) (IsLiftedTo p table) (Rises w.out_faults)
-          w.out.before w.out.after reason
+          → IsStopped (IsUnlifted p table) (IsLiftedTo p table) w.out.before w.out.after
+          w.out_faults.before w.out_faults.after reason
           → TextEnds (Lift name which) text w (Err (stop_of reason))
       lifting_stopped reason stopped =
           table_stopped (Lift name which) text w is.problem lifted table has reason
-          (subst (λ q. IsStopped (IsUnlifted q table) (IsLiftedTo q table) (Rises w.out_faults)
-          w.out.before w.out.after reason) is.is stopped)
+          (subst (λ q. IsStopped (IsUnlifted q table) (IsLiftedTo q table)
+          w.out.before w.out.after w.out_faults.before w.out_faults.after reason) is.is stopped)
 
       pub lifting_done : (output : List ℕ) → IsLiftedTo p table output
           → Appends w.out.before w.out.after output → TextEnds (Lift name which) text w (Ok tt)
@@ -181,7 +181,7 @@ module _ (which : Scheme) (text : List ℕ) (out : Change (Option (List ℕ))) (
 
   -- the encoding is stopped by its text
   pub encoding_stopped : (stop : Stop) → TextStops (Encode which) text stop
-      → Keeps out.before out.after → Encodes (Err stop)
+      → Untouched out faults → Encodes (Err stop)
   encoding_stopped NotBuilt stops kept = (stops, kept)
   encoding_stopped (Unread name) stops kept = absurd stops
   encoding_stopped (Refused reason) stops kept = (stops, kept)

@@ -1,6 +1,6 @@
 -- How a run ends, and what each way to end rests on.
 use Rattle.std.specs.Prelude.{◌≡◌, ◌≤◌, ◌⊎◌, ℕ, List, Option, Some, None, IsSome, Result, Ok, Err}
-use Rattle.std.specs.Io.KnownBytes.{Appends, Keeps}
+use Rattle.std.specs.Io.KnownBytes.{Appends}
 use Rattle.enc_base.specs.Counts.{one_more}
 use Rattle.enc_base.specs.Library.{IsHeld}
 use Rattle.enc_base.specs.Sink.{AppendsPrefix}
@@ -9,7 +9,7 @@ use Rattle.enc_run.specs.Job.{table_name}
 use Rattle.enc_run.specs.Leads.{IsRefusedBy, IsTableRefusedBy, IsUnbuilt, IsAcceptable, IsOutputOf}
 use Rattle.enc_run.specs.Stop.{status_of}
 use Rattle.enc_run.specs.Note.{Notes}
-use Rattle.enc_run.specs.Work.{Change, Work, Rises, OwnRises, HasText, HasTable}
+use Rattle.enc_run.specs.Work.{Change, Work, Rises, OwnRises, Untouched, HasText, HasTable}
 use Rattle.enc_run.specs.declared.job.Job.{Job}
 use Rattle.enc_run.specs.declared.job.Task.{Task}
 use Rattle.enc_run.specs.declared.stop.Stop.{Stop}
@@ -65,7 +65,7 @@ CauseOf w Memory = Unit {0}
 -- a stop but that of a failed write leaves the output as it was
 abbrev pub LeavesOut : Work → Stop → Type 0
 LeavesOut w Unwritten = Unit {0}
-LeavesOut w _ = Keeps w.out.before w.out.after
+LeavesOut w _ = Untouched w.out w.out_faults
 
 -- the run wrote a whole output, or was stopped
 abbrev pub EndsBy : Work → Result (Unit {0}) Stop → Type 0
@@ -85,10 +85,10 @@ abbrev pub status_at : Result (Unit {0}) Stop → ℕ
 status_at (Ok done) = 0
 status_at (Err stop) = status_of stop
 
--- what a run leaves in the notes: nothing, or the stop's note unless a write of it failed
+-- what a run leaves in the notes: nothing, or the stop's note, as far as the notes take it
 abbrev pub Noted : Result (Unit {0}) Stop → Change (Option (List ℕ)) → Change ℕ → Type 0
 Noted (Ok done) notes faults = (notes.after ≡ notes.before) × (faults.after ≡ faults.before)
-Noted (Err stop) notes faults = (Rises faults → ⊥) → Notes stop notes.before notes.after
+Noted (Err stop) notes faults = Notes stop notes faults
 
 -- how a run ended, with the status and the notes that belong to it
 pub record Ended (w : Work) (notes : Change (Option (List ℕ))) (notes_faults : Change ℕ) (status : ℕ)

@@ -1,7 +1,7 @@
 -- What the texts of a job lead to: a refusal, or an output.
 use Rattle.std.specs.Prelude.{◌≡◌, ◌<◌, ◌≤◌, ℕ, Bool, true, false, List}
+use Rattle.enc_base.specs.Counts.{in_64_bits}
 use Rattle.tf_core.specs.declared.problem.Problem.{Problem}
-use Rattle.tf_nnf.specs.Nodes.{in_64_bits}
 use Rattle.tf_nnf.specs.NormalForm.{normal_of}
 use Rattle.tf_nnf.specs.Refusal.{most_nodes}
 use Rattle.fof_models.specs.declared.problem.FofProblem.{FofProblem}

@@ -1,11 +1,10 @@
--- How the parts of a run end: the encoding of a problem, and a task on a text.
+-- How the parts of a run end: the encoding of a problem, and a task on a text. This need not be
+-- believed: no promise of a run cites it.
 use Rattle.std.specs.Prelude.{◌≡◌, ◌<◌, ◌≤◌, ◌⊎◌, ℕ, true, false, List, [], Option, Some, Result, Ok, Err}
-use Rattle.std.specs.Io.KnownBytes.{Appends, Keeps}
-use Rattle.enc_base.specs.Counts.{one_more}
-use Rattle.enc_base.specs.Library.{Files}
+use Rattle.std.specs.Io.KnownBytes.{Appends}
+use Rattle.enc_base.specs.Counts.{one_more, in_64_bits}
 use Rattle.enc_base.specs.Sink.{AppendsPrefix}
 use Rattle.tf_core.specs.declared.problem.Problem.{Problem}
-use Rattle.tf_nnf.specs.Nodes.{in_64_bits}
 use Rattle.tf_nnf.specs.NormalForm.{normal_of}
 use Rattle.tf_nnf.specs.Refusal.{most_nodes}
 use Rattle.fof_models.specs.declared.problem.FofProblem.{FofProblem}
@@ -24,7 +23,7 @@ use Rattle.enc_run.specs.Ending.{Fails}
 use Rattle.enc_run.specs.Job.{table_name}
 use Rattle.enc_run.specs.Leads.{IsRefusedBy, IsTableRefusedBy, IsUnbuilt, IsAcceptable, IsOutputOf}
 use Rattle.enc_run.specs.Leads.{encodes, carries, untyped_problem, preparation}
-use Rattle.enc_run.specs.Work.{Change, Work, Rises, HasTable}
+use Rattle.enc_run.specs.Work.{Change, Work, Rises, Untouched, HasTable}
 use Rattle.enc_run.specs.declared.job.Task.{Task}
 use Rattle.enc_run.specs.declared.job.Task.TheVariants.{Encode}
 use Rattle.enc_run.specs.declared.stop.Stop.{Stop}
@@ -62,7 +61,7 @@ module _ (which : Scheme) (problem : Problem) (out : Change (Option (List ℕ)))
     ProblemEnds (Ok done) = IsWritten which problem (Appends out.before out.after)
     ProblemEnds (Err Unwritten) =
         IsWritten which problem (AppendsPrefix out.before out.after) × Rises faults
-    ProblemEnds (Err stop) = ProblemStops which problem stop × Keeps out.before out.after
+    ProblemEnds (Err stop) = ProblemStops which problem stop × Untouched out faults
 
 -- ---- a text
 
@@ -75,10 +74,10 @@ module _ (which : Scheme) (text : List ℕ) (out : Change (Option (List ℕ))) (
   EncodingEnds (Err Unwritten) =
       (output : List ℕ) × IsOutputOf (Encode which) output text []
       × AppendsPrefix out.before out.after output × Rises faults
-  EncodingEnds (Err NotBuilt) = IsUnbuilt (Encode which) text × Keeps out.before out.after
+  EncodingEnds (Err NotBuilt) = IsUnbuilt (Encode which) text × Untouched out faults
   EncodingEnds (Err (Refused reason)) =
-      IsRefusedBy (Encode which) reason text × Keeps out.before out.after
-  EncodingEnds (Err Memory) = Keeps out.before out.after
+      IsRefusedBy (Encode which) reason text × Untouched out faults
+  EncodingEnds (Err Memory) = Untouched out faults
   EncodingEnds (Err (Unread name)) = ⊥
 
 -- why a task is stopped by its problem's text
@@ -111,14 +110,14 @@ module _ (task : Task) (text : List ℕ) (w : Work) where
   TextEnds (Err Unwritten) =
       (output : List ℕ) × WithTable (IsOutputOf task output text)
       × AppendsPrefix w.out.before w.out.after output × Rises w.out_faults
-  TextEnds (Err NotBuilt) = IsUnbuilt task text × Keeps w.out.before w.out.after
+  TextEnds (Err NotBuilt) = IsUnbuilt task text × Untouched w.out w.out_faults
   TextEnds (Err (Refused reason)) =
       (IsRefusedBy task reason text ⊎ WithTable (IsTableRefusedBy task reason text))
-      × Keeps w.out.before w.out.after
+      × Untouched w.out w.out_faults
   TextEnds (Err (Unread name)) =
       (table_name task ≡ Some name) × IsAcceptable task text × Fails w name
-      × Keeps w.out.before w.out.after
-  TextEnds (Err Memory) = Keeps w.out.before w.out.after
+      × Untouched w.out w.out_faults
+  TextEnds (Err Memory) = Untouched w.out w.out_faults
 
   -- the table is read at most once, and only where the problem's text is accepted
   abbrev pub ReadsTable : Type 0
@@ -126,9 +125,3 @@ module _ (task : Task) (text : List ℕ) (w : Work) where
       (w.reads.after ≡ w.reads.before)
       ⊎ ((name : List ℕ) × (table_name task ≡ Some name) × IsAcceptable task text
       × (w.reads.after ≡ one_more w.reads.before))
-
--- what no read changes: the files, and that no count falls
-pub record GoesOn (w : Work) (held_after : Option Files) : Type 0 where
-  pub same_files : held_after ≡ w.held
-  pub later : w.faults.before ≤ w.faults.after
-  pub own_later : (name : List ℕ) → w.own.before name ≤ w.own.after name

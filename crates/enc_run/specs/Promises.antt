@@ -1,6 +1,6 @@
 -- What a run promises, one promise a definition. A text is told where the library tells its files.
 use Rattle.std.specs.Prelude.{◌≡◌, ◌⊎◌, ◌↔◌, ◌++◌, ℕ, List, Option, Some, None}
-use Rattle.std.specs.Io.KnownBytes.{Appends, Keeps}
+use Rattle.std.specs.Io.KnownBytes.{Appends}
 use Rattle.enc_base.specs.Library.{Files, IsHeld}
 use Rattle.enc_base.specs.Sink.{AppendsPrefix}
 use Rattle.tptp_syntax.specs.declared.entry.File.{File}
@@ -16,9 +16,10 @@ use Rattle.enc_run.specs.Ending.{OfText, IsRefused, IsOutput, IsInput, Fails}
 use Rattle.enc_run.specs.Job.{table_name}
 use Rattle.enc_run.specs.Leads.{IsRefusedBy, IsTableRefusedBy, IsUnbuilt, IsAcceptable, IsOutputOf}
 use Rattle.enc_run.specs.Leads.{untyped_problem}
-use Rattle.enc_run.specs.Note.{program_word, line, not_built, cannot_read, cannot_write, no_memory}
+use Rattle.enc_run.specs.Note.{line, not_built, cannot_read, cannot_write, no_memory}
 use Rattle.enc_run.specs.Refusals.{status_of, number_of}
-use Rattle.enc_run.specs.Work.{Change, Work, Rises, OwnRises, IsTold, AreTold, NoneFails}
+use Rattle.enc_run.specs.Work.{Change, Work, Rises, OwnRises, Untouched, Adds, IsTold, AreTold}
+use Rattle.enc_run.specs.Work.{NoneFails}
 use Rattle.enc_run.specs.declared.job.Job.{Job}
 use Rattle.enc_run.specs.declared.job.Task.TheVariants.{Encode}
 
@@ -107,31 +108,27 @@ IsStatus status =
 
 -- ---- what is written
 
--- The output is whole at 0, a prefix at 7, and as it was at any other status.
+-- The output is whole at 0, a prefix at 7, and untouched at any other status.
 pub record OutHolds (w : Work) (status : ℕ) : Type 0 where
   pub whole : status ≡ 0
       → (output : List ℕ) × IsOutput w output × Appends w.out.before w.out.after output
   pub prefix : status ≡ 7
       → (output : List ℕ) × IsOutput w output × AppendsPrefix w.out.before w.out.after output
-  pub kept : (status ≡ 0 → ⊥) → (status ≡ 7 → ⊥) → Keeps w.out.before w.out.after
+  pub untouched : (status ≡ 0 → ⊥) → (status ≡ 7 → ⊥) → Untouched w.out w.out_faults
 
--- this line was added to the notes
-abbrev pub Adds : Change (Option (List ℕ)) → List ℕ → Type 0
-Adds notes text = Appends notes.before notes.after (line text)
-
--- Nothing is noted at 0. At any other status one line is, unless a write of it failed: the whole
--- line, or one that begins with the number of the reason for which an input is refused.
+-- Nothing is noted at 0. At any other status one note is: a line that the status and the names of
+-- the job decide, or one that begins with the number of the reason for which an input is refused.
+-- It is added whole, or up to a write of it that failed.
 pub record NotesHold (w : Work) (notes : Change (Option (List ℕ))) (notes_faults : Change ℕ)
     (status : ℕ) : Type 0 where
   pub none : status ≡ 0
       → (notes.after ≡ notes.before) × (notes_faults.after ≡ notes_faults.before)
-  pub unbuilt : status ≡ 9 → (Rises notes_faults → ⊥) → Adds notes not_built
-  pub unread : status ≡ 6 → (Rises notes_faults → ⊥)
+  pub unbuilt : status ≡ 9 → Adds notes notes_faults (line not_built)
+  pub unread : status ≡ 6
       → (name : List ℕ) × IsInput w name × (IsHeld w.held name → OwnRises w name)
-      × Adds notes (cannot_read ++ name)
-  pub unwritten : status ≡ 7 → (Rises notes_faults → ⊥) → Adds notes cannot_write
-  pub memory : status ≡ 8 → (Rises notes_faults → ⊥) → Adds notes no_memory
-  pub refused : IsOfRefusal status → (Rises notes_faults → ⊥)
+      × Adds notes notes_faults (line (cannot_read ++ name))
+  pub unwritten : status ≡ 7 → Adds notes notes_faults (line cannot_write)
+  pub memory : status ≡ 8 → Adds notes notes_faults (line no_memory)
+  pub refused : IsOfRefusal status
       → (reason : Fault) × IsRefused w reason × (status_of reason ≡ status)
-      × ((rest : List ℕ)
-      × Appends notes.before notes.after (program_word ++ (number_of reason ++ rest)))
+      × ((rest : List ℕ) × Adds notes notes_faults (line (number_of reason ++ rest)))

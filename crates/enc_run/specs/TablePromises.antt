@@ -5,7 +5,6 @@ use Rattle.tf_core.specs.declared.problem.Problem.{Problem}
 use Rattle.tf_core.specs.TypedTables.{AreModel}
 use Rattle.tf_models.specs.declared.structure.TypedStructure.{TypedStructure}
 use Rattle.tf_models.specs.Reading.{tables}
-use Rattle.fof_models.specs.declared.structure.Structure.{Structure}
 use Rattle.fof_models.specs.Models as untyped
 use Rattle.fof_text.specs.Names.{chosen_names}
 use Rattle.model_tables.specs.Typed.{IsTypedTable}

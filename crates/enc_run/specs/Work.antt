@@ -1,6 +1,8 @@
 -- A run as its caller sees it.
-use Rattle.std.specs.Prelude.{◌≡◌, ℕ, List, [], Option, Some, None}
+use Rattle.std.specs.Prelude.{◌≡◌, ◌≤◌, ◌⊎◌, ℕ, List, [], Option, Some, None}
+use Rattle.std.specs.Io.KnownBytes.{Appends, Keeps}
 use Rattle.enc_base.specs.Counts.{Rose}
+use Rattle.enc_base.specs.Sink.{AppendsPrefix}
 use Rattle.enc_base.specs.Library.{Files, Holds, Gives}
 use Rattle.enc_run.specs.Job.{table_name}
 use Rattle.enc_run.specs.declared.job.Job.{Job}
@@ -43,6 +45,26 @@ Rises count = Rose count.before count.after
 -- the count of faults of this name rose in the run
 abbrev pub OwnRises : Work → List ℕ → Type 0
 OwnRises w name = Rose (w.own.before name) (w.own.after name)
+
+-- ---- sinks, by the bytes that they tell and their counts of faults
+
+-- the sink is as it was
+abbrev pub Untouched : Change (Option (List ℕ)) → Change ℕ → Type 0
+Untouched bytes faults = Keeps bytes.before bytes.after × (faults.after ≡ faults.before)
+
+-- the text was added whole and no fault was counted, or a prefix of it was, and the count rose
+abbrev pub Adds : Change (Option (List ℕ)) → Change ℕ → List ℕ → Type 0
+Adds bytes faults text =
+    (Appends bytes.before bytes.after text × (faults.after ≡ faults.before))
+    ⊎ (AppendsPrefix bytes.before bytes.after text × Rises faults)
+
+-- ---- files
+
+-- what no read changes: the files, and that no count falls
+pub record GoesOn (w : Work) (held_after : Option Files) : Type 0 where
+  pub same_files : held_after ≡ w.held
+  pub later : w.faults.before ≤ w.faults.after
+  pub own_later : (name : List ℕ) → w.own.before name ≤ w.own.after name
 
 -- ---- texts
 

@@ -1,9 +1,11 @@
 //! The line that a stopped run leaves in the notes.
 
-ghost use Rattle.std.specs.Prelude.{◌≡◌, ◌≤◌, ◌++◌, ℕ, List, OnOk, OnErr};
+ghost use Rattle.std.specs.Prelude.{◌≡◌, ◌++◌, OnOk, OnErr};
 ghost use Rattle.std.specs.Io.KnownBytes.{Appends};
 ghost use Rattle.enc_base.specs.Counts.{Rose};
+ghost use Rattle.enc_base.specs.Sink.{AppendsPrefix};
 ghost use Rattle.enc_run.specs.Note.{Notes, line, not_built, cannot_read, cannot_write, no_memory, program_word};
+ghost use Rattle.enc_run.specs.Work.{Adds, Change};
 ghost use Rattle.enc_run.specs.Refusals.{number_of, reading_number, scheme_number, table_number, typing_number};
 
 use crate::Stop;
@@ -17,9 +19,12 @@ use tptp_syntax::ReadError;
 
 // Writes two pieces.
 fn write_both<E: Sink>(first: &[u8], second: &[u8], notes: &mut E) -> Result<(), Failed>
-    ensures ok { OnOk result (Appends (E.bytes notes.old) (E.bytes notes.new) (first.now ++ second.now)) }
+    ensures ok { OnOk result
+        (Appends (E.bytes notes.old) (E.bytes notes.new) (first.now ++ second.now)) }
+    ensures kept_faults { OnOk result (E.faults notes.new ≡ E.faults notes.old) }
     ensures failed { OnErr result (Rose (E.faults notes.old) (E.faults notes.new)) }
-    ensures later { E.faults notes.old ≤ E.faults notes.new }
+    ensures begins { OnErr result
+        (AppendsPrefix (E.bytes notes.old) (E.bytes notes.new) (first.now ++ second.now)) }
 {
     notes.write(first)?;
     notes.write(second)
@@ -28,39 +33,35 @@ fn write_both<E: Sink>(first: &[u8], second: &[u8], notes: &mut E) -> Result<(),
 #[tactic(auto, unfolding(crate::specs::Note::program_word))]
 fn write_program_word<E: Sink>(notes: &mut E) -> Result<(), Failed>
     ensures ok { OnOk result (Appends (E.bytes notes.old) (E.bytes notes.new) program_word) }
+    ensures kept_faults { OnOk result (E.faults notes.new ≡ E.faults notes.old) }
     ensures failed { OnErr result (Rose (E.faults notes.old) (E.faults notes.new)) }
-    ensures later { E.faults notes.old ≤ E.faults notes.new }
+    ensures begins { OnErr result
+        (AppendsPrefix (E.bytes notes.old) (E.bytes notes.new) program_word) }
 {
     notes.write(b"tfenc: ")
 }
 
-fn write_line<E: Sink>(text: &[u8], notes: &mut E) -> Result<(), Failed>
-    ensures ok { OnOk result (Appends (E.bytes notes.old) (E.bytes notes.new) (line text.now)) }
+// Writes a line of two pieces.
+fn write_line<E: Sink>(first: &[u8], second: &[u8], notes: &mut E) -> Result<(), Failed>
+    ensures ok { OnOk result
+        (Appends (E.bytes notes.old) (E.bytes notes.new) (line (first.now ++ second.now))) }
+    ensures kept_faults { OnOk result (E.faults notes.new ≡ E.faults notes.old) }
     ensures failed { OnErr result (Rose (E.faults notes.old) (E.faults notes.new)) }
-    ensures later { E.faults notes.old ≤ E.faults notes.new }
+    ensures begins { OnErr result
+        (AppendsPrefix (E.bytes notes.old) (E.bytes notes.new) (line (first.now ++ second.now))) }
 {
     write_program_word(notes)?;
-    write_both(text, b"\n", notes)
+    write_both(first, second, notes)?;
+    notes.write(b"\n")
 }
 
-#[tactic(auto, unfolding(crate::specs::Note::cannot_read))]
-fn write_cannot_read<E: Sink>(notes: &mut E) -> Result<(), Failed>
-    ensures ok { OnOk result (Appends (E.bytes notes.old) (E.bytes notes.new) cannot_read) }
-    ensures failed { OnErr result (Rose (E.faults notes.old) (E.faults notes.new)) }
-    ensures later { E.faults notes.old ≤ E.faults notes.new }
+// Adds a line of two pieces. A write that fails is passed over.
+fn add_line<E: Sink>(first: &[u8], second: &[u8], notes: &mut E)
+    ensures { Adds (record { before = E.bytes notes.old; after = E.bytes notes.new })
+        (record { before = E.faults notes.old; after = E.faults notes.new })
+        (line (first.now ++ second.now)) }
 {
-    notes.write(b"cannot read ")
-}
-
-// Writes `cannot read` and the name.
-fn write_unread<E: Sink>(name: &[u8], notes: &mut E) -> Result<(), Failed>
-    ensures ok { OnOk result (Appends (E.bytes notes.old) (E.bytes notes.new) (line (cannot_read ++ name.now))) }
-    ensures failed { OnErr result (Rose (E.faults notes.old) (E.faults notes.new)) }
-    ensures later { E.faults notes.old ≤ E.faults notes.new }
-{
-    write_program_word(notes)?;
-    write_cannot_read(notes)?;
-    write_both(name, b"\n", notes)
+    let _ = write_line(first, second, notes);
 }
 
 fn reading_number(reason: &ReadError) -> &'static [u8]
@@ -151,21 +152,6 @@ fn message(alloc: Global, reason: &Fault) -> String {
     }
 }
 
-fn write_refusal<E: Sink>(alloc: Global, reason: &Fault, notes: &mut E) -> Result<(), Failed>
-    ensures ok { OnOk result ((rest : List ℕ)
-        × Appends (E.bytes notes.old) (E.bytes notes.new) (program_word ++ (number_of reason.now ++ rest))) }
-    ensures failed { OnErr result (Rose (E.faults notes.old) (E.faults notes.new)) }
-    ensures later { E.faults notes.old ≤ E.faults notes.new }
-{
-    let text = message(alloc, reason);
-    write_program_word(notes)?;
-    notes.write(number_of(reason))?;
-    match write_both(text.as_bytes(), b"\n", notes) {
-        Ok(()) => Ok(()),
-        Err(_) => Err(Failed),
-    }
-}
-
 #[tactic(auto, unfolding(crate::specs::Note::not_built))]
 fn not_built() -> &'static [u8]
     ensures { result.now ≡ not_built }
@@ -187,23 +173,28 @@ fn no_memory() -> &'static [u8]
     b"no memory"
 }
 
-fn try_note<E: Sink>(alloc: Global, stop: &Stop, notes: &mut E) -> Result<(), Failed>
-    ensures ok { OnOk result (Notes stop.now (E.bytes notes.old) (E.bytes notes.new)) }
-    ensures failed { OnErr result (Rose (E.faults notes.old) (E.faults notes.new)) }
+#[tactic(auto, unfolding(crate::specs::Note::cannot_read))]
+fn cannot_read() -> &'static [u8]
+    ensures { result.now ≡ cannot_read }
 {
-    match stop {
-        Stop::NotBuilt => write_line(not_built(), notes),
-        Stop::Unread(name) => write_unread(name.as_str().as_bytes(), notes),
-        Stop::Refused(reason) => write_refusal(alloc, reason, notes),
-        Stop::Unwritten => write_line(cannot_write(), notes),
-        Stop::Memory => write_line(no_memory(), notes),
-    }
+    b"cannot read "
 }
 
-/// Writes the note of a stop. A write that fails is passed over, since no answer of the notes
-/// changes the status.
+/// Writes the note of a stop: a line that begins with the program's name.
+///
+/// Where a write fails the note ends there. No answer of the notes is handed on.
 pub fn write_note<E: Sink>(alloc: Global, stop: &Stop, notes: &mut E)
-    ensures { (Rose (E.faults notes.old) (E.faults notes.new) → ⊥) → Notes stop.now (E.bytes notes.old) (E.bytes notes.new) }
+    ensures { Notes stop.now (record { before = E.bytes notes.old; after = E.bytes notes.new })
+        (record { before = E.faults notes.old; after = E.faults notes.new }) }
 {
-    let _ = try_note(alloc, stop, notes);
+    match stop {
+        Stop::NotBuilt => add_line(not_built(), b"", notes),
+        Stop::Unread(name) => add_line(cannot_read(), name.as_str().as_bytes(), notes),
+        Stop::Refused(reason) => {
+            let text = message(alloc, reason);
+            add_line(number_of(reason), text.as_bytes(), notes);
+        }
+        Stop::Unwritten => add_line(cannot_write(), b"", notes),
+        Stop::Memory => add_line(no_memory(), b"", notes),
+    }
 }

@@ -1,8 +1,8 @@
 //! From a problem's text and a table's to what is written for them.
 
 ghost use Rattle.std.specs.Prelude.{ℕ, List, None, IfOk, IfErr};
-ghost use Rattle.enc_run.specs.Parts.{TextEnds, TextStops, HasPrepared, ReadsTable, GoesOn};
-ghost use Rattle.enc_run.specs.Work.{work_of};
+ghost use Rattle.enc_run.specs.Parts.{TextEnds, TextStops, HasPrepared, ReadsTable};
+ghost use Rattle.enc_run.specs.Work.{work_of, GoesOn};
 ghost use Rattle.enc_run.specs.declared.job.Task.TheVariants.{Check, Lower, Lift};
 
 use crate::reading::read_text;

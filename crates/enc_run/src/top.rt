@@ -1,10 +1,10 @@
 //! The top call.
 
-ghost use Rattle.std.specs.Prelude.{map, string_bytes, Some, None};
+ghost use Rattle.std.specs.Prelude.{◌≡◌, map, string_bytes, Some, None};
 ghost use Rattle.enc_run.specs.Job.{job_of};
-ghost use Rattle.enc_run.specs.Work.{work_of};
-ghost use Rattle.enc_run.specs.Ending.{EndsBy, Ended, ReadsAsNeeded};
-ghost use Rattle.enc_run.specs.Parts.{TextEnds, ReadsTable, GoesOn};
+ghost use Rattle.enc_run.specs.Work.{work_of, GoesOn};
+ghost use Rattle.enc_run.specs.Ending.{EndsBy, Ended, Noted, ReadsAsNeeded, status_at};
+ghost use Rattle.enc_run.specs.Parts.{TextEnds, ReadsTable};
 ghost use Rattle.enc_run.specs.Promises.{Headline, Complete, NotBuiltExactly, RefusedExactly, UnreadOnly, UnheldIsUnread, UnwrittenOnly, IsStatus, OutHolds, NotesHold};
 ghost use Rattle.enc_run.specs.TablePromises.{Checks, Lowers, Lifts};
 
@@ -46,11 +46,13 @@ fn finish<L: Library, O: Sink>(
 ) -> Result<(), Stop>
     ensures ends { EndsBy (work_of L.held L.faults L.reads L.own_faults O.bytes O.faults (Some job) files.old files.new out.old out.new) result }
     ensures reads { ReadsAsNeeded (work_of L.held L.faults L.reads L.own_faults O.bytes O.faults (Some job) files.old files.new out.old out.new) }
+    ensures goes { GoesOn (work_of L.held L.faults L.reads L.own_faults O.bytes O.faults (Some job) files.old files.new out.old out.new) (L.held files.new) }
 {
     let text = read_text(alloc, job.problem, files)?;
     perform(alloc, job.task, &text, files, out)
 }
 
+// Does what the words ask for, without a note.
 fn work<L: Library, O: Sink>(
     alloc: Global,
     words: &[String],
@@ -59,6 +61,7 @@ fn work<L: Library, O: Sink>(
 ) -> Result<(), Stop>
     ensures ends { EndsBy (work_of L.held L.faults L.reads L.own_faults O.bytes O.faults (job_of (map string_bytes words.now)) files.old files.new out.old out.new) result }
     ensures reads { ReadsAsNeeded (work_of L.held L.faults L.reads L.own_faults O.bytes O.faults (job_of (map string_bytes words.now)) files.old files.new out.old out.new) }
+    ensures goes { GoesOn (work_of L.held L.faults L.reads L.own_faults O.bytes O.faults (job_of (map string_bytes words.now)) files.old files.new out.old out.new) (L.held files.new) }
 {
     match read_words(alloc, words) {
         Ok(Some(job)) => finish(alloc, job, files, out),
@@ -67,7 +70,22 @@ fn work<L: Library, O: Sink>(
     }
 }
 
-// Works, and notes why where it stops.
+// Notes why a run stopped, and gives its status. No answer of the notes changes that.
+fn close<E: Sink>(alloc: Global, end: &Result<(), Stop>, notes: &mut E) -> u8
+    ensures status { result ≡ status_at end.now }
+    ensures noted { Noted end.now (record { before = E.bytes notes.old; after = E.bytes notes.new })
+        (record { before = E.faults notes.old; after = E.faults notes.new }) }
+{
+    match end {
+        Ok(()) => 0,
+        Err(stop) => {
+            write_note(alloc, stop, notes);
+            stop.status()
+        }
+    }
+}
+
+// Works, and then notes why where that stopped.
 fn ended<L: Library, O: Sink, E: Sink>(
     alloc: Global,
     words: &[String],
@@ -75,16 +93,12 @@ fn ended<L: Library, O: Sink, E: Sink>(
     out: &mut O,
     notes: &mut E,
 ) -> u8
-    ensures { Ended (work_of L.held L.faults L.reads L.own_faults O.bytes O.faults (job_of (map string_bytes words.now)) files.old files.new out.old out.new)
+    ensures ended { Ended (work_of L.held L.faults L.reads L.own_faults O.bytes O.faults (job_of (map string_bytes words.now)) files.old files.new out.old out.new)
         (record { before = E.bytes notes.old; after = E.bytes notes.new }) (record { before = E.faults notes.old; after = E.faults notes.new }) result }
+    ensures goes { GoesOn (work_of L.held L.faults L.reads L.own_faults O.bytes O.faults (job_of (map string_bytes words.now)) files.old files.new out.old out.new) (L.held files.new) }
 {
-    match work(alloc, words, files, out) {
-        Ok(()) => 0,
-        Err(stop) => {
-            write_note(alloc, &stop, notes);
-            stop.status()
-        }
-    }
+    let end = work(alloc, words, files, out);
+    close(alloc, &end, notes)
 }
 
 /// Does all that the program does, and gives its exit status.
@@ -112,6 +126,7 @@ pub fn run<L: Library, O: Sink, E: Sink>(
     ensures notes { NotesHold (work_of L.held L.faults L.reads L.own_faults O.bytes O.faults (job_of (map string_bytes words.now)) files.old files.new out.old out.new)
         (record { before = E.bytes notes.old; after = E.bytes notes.new }) (record { before = E.faults notes.old; after = E.faults notes.new }) result }
     ensures reads { ReadsAsNeeded (work_of L.held L.faults L.reads L.own_faults O.bytes O.faults (job_of (map string_bytes words.now)) files.old files.new out.old out.new) }
+    ensures files { GoesOn (work_of L.held L.faults L.reads L.own_faults O.bytes O.faults (job_of (map string_bytes words.now)) files.old files.new out.old out.new) (L.held files.new) }
     ensures statuses { IsStatus result }
 {
     ended(alloc, words, files, out, notes)

@@ -1,18 +1,21 @@
-use Rattle.std.proofs.Common.{subst}
-use Rattle.std.specs.Io.KnownBytes.{Appends}
-use Rattle.enc_base.specs.Sink.{AppendsPrefix}
-use Rattle.enc_base.proofs.Written.{prefix_first, prefix_second}
+use Rattle.std.proofs.Common.{ap, ◌++◌}
+use Rattle.enc_base.proofs.Puts.{then_put, put_as, all_sent, some_sent, where_ok, where_failed}
 use Rattle.fof_text.specs.Written.{text_of}
-use Rattle.enc_pipeline.specs.Output.{first_line}
 use Rattle.enc_pipeline.proofs.output.write_output.Goals as goal
 
-pub returns-in-Err-write_problem-clause-within : goal.returns-in-Err-write_problem-clause-within
-returns-in-Err-write_problem-clause-within g c =
-    prefix_second _ _ _ (first_line c.args.which.now) (text_of c.args.names.now c.args.problem.now)
-    (subst (λ l. Appends (g.O.Sink.bytes c.args.out.now) (g.O.Sink.bytes c.write.new.self) l) c.first_line.ensures c.in-Ok.ensures.ok)
-    c.in-Err-write_problem.ensures.within
+pub returns-clause-exact : goal.returns-clause-exact
+returns-clause-exact g c =
+    where_ok c.finish.result (all_sent c.new-pending.ensures
+    (put_as (ap (λ z. z ++ text_of c.args.names.now c.args.problem.now) c.first_line.ensures)
+    (then_put c.put.ensures.puts c.put_problem.ensures))) c.finish.ensures.exact
 
-pub returns-in-Err-clause-within : goal.returns-in-Err-clause-within
-returns-in-Err-clause-within g c =
-    prefix_first _ _ (first_line c.args.which.now) (text_of c.args.names.now c.args.problem.now)
-    (subst (λ l. AppendsPrefix (g.O.Sink.bytes c.args.out.now) (g.O.Sink.bytes c.write.new.self) l) c.first_line.ensures c.in-Err.ensures.begins)
+pub returns-clause-within : goal.returns-clause-within
+returns-clause-within g c =
+    where_failed c.finish.result (λ broken. (some_sent c.new-pending.ensures
+    (put_as (ap (λ z. z ++ text_of c.args.names.now c.args.problem.now) c.first_line.ensures)
+    (then_put c.put.ensures.puts c.put_problem.ensures)) broken).0) c.finish.ensures.cause
+
+pub returns-clause-cause : goal.returns-clause-cause
+returns-clause-cause g c =
+    where_failed c.finish.result (λ broken. (some_sent c.new-pending.ensures
+    (then_put c.put.ensures.puts c.put_problem.ensures) broken).1) c.finish.ensures.cause

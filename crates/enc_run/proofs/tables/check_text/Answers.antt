@@ -15,7 +15,8 @@ returns-in_err-problem-clause-ends g c =
     c.in_err-problem.ensures.refused in
     handed_on (TextEnds (Check c.args.table) c.args.text.now _)
     c.from_residual.result (stop_of reason) c.from_residual.ensures
-    (text_stopped (Check c.args.table) c.args.text.now _ (stop_of reason) stops (Keeps-refl _))
+    (text_stopped (Check c.args.table) c.args.text.now _ (stop_of reason) stops
+    (Keeps-refl _, refl))
 
 pub returns-in_err-table-clause-ends : goal.returns-in_err-table-clause-ends
 returns-in_err-table-clause-ends g c =
@@ -25,7 +26,7 @@ returns-in_err-table-clause-ends g c =
     handed_on (TextEnds (Check c.args.table) c.args.text.now _)
     c.from_residual-in_err-table.result stop c.from_residual-in_err-table.ensures
     (table_unread (Check c.args.table) c.args.text.now _ c.args.table refl (problem, accepted) stop
-    c.in_err-table.ensures.cause (Keeps-refl _))
+    c.in_err-table.ensures.cause (Keeps-refl _, refl))
 
 pub returns-in_err-table-clause-reads : goal.returns-in_err-table-clause-reads
 returns-in_err-table-clause-reads g c =

@@ -13,7 +13,7 @@ returns-in_err-prepared-clause-ends g c =
     handed_on (TextEnds (Lift c.args.table c.args.which) c.args.text.now _)
     c.from_residual.result stop c.from_residual.ensures
     (text_stopped (Lift c.args.table c.args.which) c.args.text.now _ stop
-    (c.in_err-prepared.ensures.cause c.args.table).1 (Keeps-refl _))
+    (c.in_err-prepared.ensures.cause c.args.table).1 (Keeps-refl _, refl))
 
 pub returns-in_err-table-clause-ends : goal.returns-in_err-table-clause-ends
 returns-in_err-table-clause-ends g c =
@@ -23,7 +23,7 @@ returns-in_err-table-clause-ends g c =
     handed_on (TextEnds (Lift c.args.table c.args.which) c.args.text.now _)
     c.from_residual-in_err-table.result stop c.from_residual-in_err-table.ensures
     (table_unread (Lift c.args.table c.args.which) c.args.text.now _ c.args.table refl
-    (is.problem, accepted) stop c.in_err-table.ensures.cause (Keeps-refl _))
+    (is.problem, accepted) stop c.in_err-table.ensures.cause (Keeps-refl _, refl))
 
 pub returns-in_err-table-clause-reads : goal.returns-in_err-table-clause-reads
 returns-in_err-table-clause-reads g c =

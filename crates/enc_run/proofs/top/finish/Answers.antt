@@ -1,7 +1,7 @@
 use Rattle.std.proofs.Common.{refl}
 use Rattle.std.proofs.KnownBytes.{Keeps-refl}
 use Rattle.enc_run.specs.Ending.{EndsBy}
-use Rattle.enc_run.proofs.RunEndings.{reads_problem, problem_unread, run_ends, run_reads}
+use Rattle.enc_run.proofs.RunEndings.{reads_problem, problem_unread, run_ends, run_reads, run_goes}
 use Rattle.enc_run.proofs.TextEndings.{handed_on}
 use Rattle.enc_run.proofs.top.finish.Goals as goal
 
@@ -10,7 +10,7 @@ returns-in_err-text-clause-ends g c =
     let stop = c.in_err-text.field-0.0 in
     handed_on (EndsBy _) c.from_residual.result stop c.from_residual.ensures
     (problem_unread _ c.args.job refl stop c.in_err-text.ensures.cause c.read_text.ensures.counted
-    (Keeps-refl _))
+    (Keeps-refl _, refl))
 
 pub returns-in_err-text-clause-reads : goal.returns-in_err-text-clause-reads
 returns-in_err-text-clause-reads g c =
@@ -33,3 +33,12 @@ returns-clause-reads g c =
     (g.L.Library.held files) c.read_text.ensures.same_files (g.L.Library.faults files)
     (g.L.Library.reads files) own c.read_text.ensures.counted
     (rw c.deref.ensures.value at c.perform.ensures.reads)
+
+pub returns-clause-goes : goal.returns-clause-goes
+returns-clause-goes g c =
+    let files = c.read_text.new.files in
+    let own = g.L.Library.own_faults files in
+    run_goes _ c.args.job refl c.in_ok-text.text.items c.in_ok-text.ensures.text
+    (g.L.Library.held files) c.read_text.ensures.same_files (g.L.Library.faults files)
+    (g.L.Library.reads files) own c.read_text.ensures.later c.read_text.ensures.own_later _
+    c.perform.ensures.goes

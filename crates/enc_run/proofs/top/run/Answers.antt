@@ -4,43 +4,43 @@ use Rattle.enc_run.proofs.TablePromises.{checks, lowers, lifts}
 use Rattle.enc_run.proofs.top.run.Goals as goal
 
 pub returns-clause-headline : goal.returns-clause-headline
-returns-clause-headline g c = headline _ _ _ _ c.ended.ensures
+returns-clause-headline g c = headline _ _ _ _ c.ended.ensures.ended
 
 pub returns-clause-complete : goal.returns-clause-complete
-returns-clause-complete g c = is_complete _ _ _ _ c.ended.ensures
+returns-clause-complete g c = is_complete _ _ _ _ c.ended.ensures.ended
 
 pub returns-clause-checks : goal.returns-clause-checks
-returns-clause-checks g c = checks _ _ _ _ c.ended.ensures
+returns-clause-checks g c = checks _ _ _ _ c.ended.ensures.ended
 
 pub returns-clause-lowers : goal.returns-clause-lowers
-returns-clause-lowers g c = lowers _ _ _ _ c.ended.ensures
+returns-clause-lowers g c = lowers _ _ _ _ c.ended.ensures.ended
 
 pub returns-clause-lifts : goal.returns-clause-lifts
-returns-clause-lifts g c = lifts _ _ _ _ c.ended.ensures
+returns-clause-lifts g c = lifts _ _ _ _ c.ended.ensures.ended
 
 pub returns-clause-refused : goal.returns-clause-refused
-returns-clause-refused g c = refused_exactly _ _ _ _ c.ended.ensures
+returns-clause-refused g c = refused_exactly _ _ _ _ c.ended.ensures.ended
 
 pub returns-clause-not_built : goal.returns-clause-not_built
-returns-clause-not_built g c = not_built_exactly _ _ _ _ c.ended.ensures
+returns-clause-not_built g c = not_built_exactly _ _ _ _ c.ended.ensures.ended
 
 pub returns-clause-unread : goal.returns-clause-unread
-returns-clause-unread g c = unread_only _ _ _ _ c.ended.ensures
+returns-clause-unread g c = unread_only _ _ _ _ c.ended.ensures.ended
 
 pub returns-clause-unheld : goal.returns-clause-unheld
-returns-clause-unheld g c = unheld_is_unread _ _ _ _ c.ended.ensures
+returns-clause-unheld g c = unheld_is_unread _ _ _ _ c.ended.ensures.ended
 
 pub returns-clause-unwritten : goal.returns-clause-unwritten
-returns-clause-unwritten g c = unwritten_only _ _ _ _ c.ended.ensures
+returns-clause-unwritten g c = unwritten_only _ _ _ _ c.ended.ensures.ended
 
 pub returns-clause-out : goal.returns-clause-out
-returns-clause-out g c = out_holds _ _ _ _ c.ended.ensures
+returns-clause-out g c = out_holds _ _ _ _ c.ended.ensures.ended
 
 pub returns-clause-notes : goal.returns-clause-notes
-returns-clause-notes g c = notes_hold _ _ _ _ c.ended.ensures
+returns-clause-notes g c = notes_hold _ _ _ _ c.ended.ensures.ended
 
 pub returns-clause-reads : goal.returns-clause-reads
-returns-clause-reads g c = c.ended.ensures.reads
+returns-clause-reads g c = c.ended.ensures.ended.reads
 
 pub returns-clause-statuses : goal.returns-clause-statuses
-returns-clause-statuses g c = status_is_one _ _ _ _ c.ended.ensures
+returns-clause-statuses g c = status_is_one _ _ _ _ c.ended.ensures.ended
