@@ -9,8 +9,6 @@ mod marked;
 mod merging;
 mod rows;
 mod starts;
-#[cfg(test)]
-mod tests;
 
 pub use lift::lift_guarded;
 pub use lower::lower_uniform;

@@ -13,8 +13,6 @@ mod names;
 mod scope;
 mod table;
 mod terms;
-#[cfg(test)]
-mod tests;
 mod types;
 
 pub use checker::check;

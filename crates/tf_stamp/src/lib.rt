@@ -4,8 +4,6 @@
 mod error;
 mod laws;
 mod stamped;
-#[cfg(test)]
-mod tests;
 
 pub use error::StampError;
 pub use laws::stamps_are_read;

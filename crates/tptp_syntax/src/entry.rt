@@ -84,10 +84,11 @@ impl Entry {
                 formula,
             } => {
                 let name = name.copy(alloc)?;
+                let role = role.copy(alloc)?;
                 let formula = formula.copy(alloc)?;
                 Ok(Entry::Statement {
                     name,
-                    role: *role,
+                    role,
                     formula,
                 })
             }

@@ -31,6 +31,3 @@ pub use laws::{
 pub use read::{MAX_BYTES, read_file};
 pub use term::{RawTerm, copy_terms, same_terms};
 pub use types::{Bound, TypeExpr, copy_bounds, copy_types, same_bounds, same_types};
-
-#[cfg(test)]
-mod tests;

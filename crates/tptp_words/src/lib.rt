@@ -12,6 +12,3 @@ mod words;
 pub use laws::{one_list, spaced_words_are_read, written_words_are_read};
 pub use word::{Word, WordError, WordKind};
 pub use words::Words;
-
-#[cfg(test)]
-mod tests;
