@@ -1,1 +1,0 @@
-fof(one,axiom,![X,Y]: X = Y).
