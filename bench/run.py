@@ -1,5 +1,5 @@
 #!/usr/bin/env python3
-"""Measures the built program: bench/run.py [reading|typing|encoding|guards|tables|models ..] [--most BYTES]
+"""Measures the built program: bench/run.py [reading|typing|encoding|guards|tables|models|hostile ..] [--most BYTES]
 
 Each text of a family is made at doubling sizes. For each the table gives the time per byte of input, the peak memory per
 byte, and the ratio to the time of `wc -w` on the same file, the least of three runs in one sitting. A text ends in an
@@ -7,11 +7,13 @@ entry that is refused at the stage behind the one that is measured, so that only
   reading    the last word is refused
   typing     a second conjecture is refused
   encoding   nothing is refused, and the output is thrown away
-  guards     the typed lists are encoded by guards: the time is that per byte of output, and where the peer why3 is
-             installed its time for the same file by guards is told too, as a multiple
+  guards     the typed lists are encoded by guards: the time is that per byte of output; where the peer why3 is installed
+             its processor time for the same file by guards is told too, as a multiple, and where strace is, how many
+             calls of the system write the output
   tables     a table with as many entries as there may be is checked
   models     models of the list problem are lowered, and what is written is lifted: the time is that per entry of the
              lowered table
+  hostile    inputs of a few lines that would take a direct evaluation without end, each at two sizes
 Last come the greatest over the least time per byte of each family from 1 MiB on, and the targets that are missed."""
 import argparse
 import os
@@ -21,10 +23,12 @@ import sys
 import tempfile
 import time
 
+import hostile
 import tables
 
 HERE = os.path.dirname(os.path.abspath(__file__))
-TFENC = os.path.join(os.path.dirname(HERE), 'tfenc')
+LAUNCHER = os.path.join(os.path.dirname(HERE), 'tfenc')
+TFENC = os.path.join(os.path.dirname(HERE), 'crates', 'tfenc', 'out', 'tfenc')
 MOST = 16777216
 
 BAD_WORD = 'fof(last,axiom,p & .\n'
@@ -112,6 +116,27 @@ def best(words, output=os.devnull, runs=3):
     return min(run[0] for run in made), max(run[1] for run in made), made[0][2]
 
 
+def processor_seconds(words, output=os.devnull, runs=1):
+    """The least processor time of a command, its own and the system's, and its status."""
+    least, status = None, 0
+    for _ in range(runs):
+        with open(output, 'wb') as out, open(os.devnull, 'wb') as null:
+            child = subprocess.Popen(words, stdin=subprocess.DEVNULL, stdout=out, stderr=null)
+            _, status, usage = os.wait4(child.pid, 0)
+        spent = usage.ru_utime + usage.ru_stime
+        least = spent if least is None else min(least, spent)
+    return least, os.waitstatus_to_exitcode(status)
+
+
+def writes(words, output):
+    """How many calls of the system write the output of a command, or nothing where strace isn't installed."""
+    if not shutil.which('strace'):
+        return None
+    with tempfile.NamedTemporaryFile('r') as calls, open(output, 'wb') as out:
+        subprocess.run(['strace', '-f', '-e', 'trace=write', '-o', calls.name, *words], stdout=out, stderr=subprocess.DEVNULL)
+        return sum(' write(1,' in line for line in calls)
+
+
 def why3_driver():
     """The driver by which why3 writes TPTP, or nothing where why3 isn't installed."""
     if not shutil.which('why3'):
@@ -123,7 +148,7 @@ def why3_driver():
 
 def guards(options, base, missed):
     """The typed lists by guards, at three numbers of types and as a text of 16 MiB."""
-    print(f'{"guards":9} {"types":>12} {"bytes":>10} {"output":>10} {"ns/byte":>9} {"memory/byte":>12} {"why3":>9}')
+    print(f'{"guards":9} {"types":>12} {"bytes":>10} {"output":>10} {"ns/byte":>9} {"memory/byte":>12} {"why3":>9} {"writes":>8}')
     times, driver = [], why3_driver()
     goal = 'tff(go,conjecture,p0(t0,c0,cons(t0,c0,nil(t0)))).\n'
     for types in (50, 500, 2000, None):
@@ -138,10 +163,14 @@ def guards(options, base, missed):
             peer = ''
             if types is not None and driver:
                 words = ['why3', 'prove', '-F', 'tptp', '-D', driver, '-M', 'enco_poly=guards', file]
-                theirs, _, their_status = best(words, runs=1)
-                peer = f'{theirs / seconds:.0f} times' if their_status == 0 else f'status {their_status}'
-                if types == 2000 and their_status == 0 and theirs < 20 * seconds:
-                    missed.append(f'guards {types}: why3 takes {theirs / seconds:.1f} times the time')
+                theirs, their_status = processor_seconds(words)
+                ours, _ = processor_seconds([TFENC, 'encode', file], output, 3)
+                peer = f'{theirs / ours:.0f} times' if their_status == 0 else f'status {their_status}'
+                if types == 2000 and their_status == 0 and theirs < 30 * ours:
+                    missed.append(f'guards {types}: why3 takes {theirs / ours:.1f} times the processor time')
+            calls = writes([TFENC, 'encode', file], output)
+            if calls is not None and calls > written / 4096 + 100:
+                missed.append(f'guards {types}: {calls} writes of {written} bytes')
         room = max(0, memory - base) / len(text)
         per_byte = seconds / max(1, written)
         if types != 50:
@@ -150,7 +179,7 @@ def guards(options, base, missed):
                 missed.append(f'guards {types}: {room:.1f} bytes of memory per byte')
         if status != 0:
             missed.append(f'guards {types}: status {status}')
-        print(f'{"guards":9} {types or "16 MiB":>12} {len(text):10} {written:10} {per_byte * 1e9:9.1f} {room:12.1f} {peer:>9}')
+        print(f'{"guards":9} {types or "16 MiB":>12} {len(text):10} {written:10} {per_byte * 1e9:9.1f} {room:12.1f} {peer:>9} {calls or "":>8}')
         sys.stdout.flush()
     if max(times) > 2 * min(times):
         missed.append(f'guards: {max(times) / min(times):.1f} times the least time per byte of output')
@@ -196,6 +225,8 @@ def models(base, missed):
                 sys.stdout.flush()
                 if status != 0:
                     missed.append(f'models {action} {entries}: status {status}')
+    if times['lower'][-1] > 3 * times['lift'][-1]:
+        missed.append(f'models: lower takes {times["lower"][-1] / times["lift"][-1]:.1f} times the time of lift an entry')
     for action, each in times.items():
         if max(each[1:]) > 2 * min(each[1:]):
             missed.append(f'models {action}: {max(each[1:]) / min(each[1:]):.1f} times the least time per entry')
@@ -207,9 +238,11 @@ def main():
     parser.add_argument('--most', type=int, default=MOST)
     options = parser.parse_args()
     missed = []
+    # (the launcher builds the program where it is missing or old)
+    measured([LAUNCHER])
     base = measured([TFENC])[1]
     print(f'{"stage":9} {"family":12} {"bytes":>10} {"ns/byte":>9} {"memory/byte":>12} {"times wc -w":>12}')
-    for stage in options.stages or [*FAMILIES, 'guards', 'tables', 'models']:
+    for stage in options.stages or ['hostile', *FAMILIES, 'guards', 'tables', 'models']:
         if stage == 'guards':
             guards(options, base, missed)
             continue
@@ -218,6 +251,9 @@ def main():
             continue
         if stage == 'models':
             models(base, missed)
+            continue
+        if stage == 'hostile':
+            hostile.hostile(TFENC, base, missed)
             continue
         for family, make in FAMILIES[stage].items():
             times = []
