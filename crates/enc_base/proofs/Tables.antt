@@ -17,16 +17,29 @@ sum_below-same (suc bound) f g same =
       sum_below-same bound f g (λ n within. same n (omega arith)),
     )
 
-sum_below-part : (bound n : ℕ) (f : ℕ → ℕ) → n < bound →
-    sum_below n f + f n ≤ sum_below bound f
-sum_below-part zero n f within = absurd (omega arith)
-sum_below-part (suc bound) n f within =
+pub sum_below-next : (n : ℕ) (f : ℕ → ℕ) → sum_below (n + 1) f ≡ sum_below n f + f n
+sum_below-next n f =
+    let next : n + 1 ≡ suc n = omega arith in
+    ap (λ k. sum_below k f) next
+
+pub sum_below-grows : (n m : ℕ) (f : ℕ → ℕ) → n ≤ m → sum_below n f ≤ sum_below m f
+sum_below-grows n zero f le =
+    let none : n ≡ 0 = omega arith in
+    ap-le n 0 f none
+  where
+    ap-le : (a b : ℕ) (f : ℕ → ℕ) → a ≡ b → sum_below a f ≤ sum_below b f
+    ap-le a b f same = subst (λ k. sum_below a f ≤ sum_below k f) same (omega arith)
+sum_below-grows n (suc m) f le =
     ⊎_elim
-    (λ same. subst (λ w. sum_below w f + f w ≤ sum_below (suc bound) f) (sym same) (omega arith))
+    (λ same. subst (λ k. sum_below k f ≤ sum_below (suc m) f) (sym same) (omega arith))
     (λ differs.
-    let other : n ≡ bound → ⊥ = differs in
-    omega (arith, sum_below-part bound n f (omega arith)))
-    (cases_eq n bound)
+    let other : n ≡ suc m → ⊥ = differs in
+    omega (arith, sum_below-grows n m f (omega (arith, other))))
+    (cases_eq n (suc m))
+
+pub sum_below-part : (n m : ℕ) (f : ℕ → ℕ) → n < m → sum_below n f + f n ≤ sum_below m f
+sum_below-part n m f within =
+    omega (arith, sum_below-next n f, sum_below-grows (n + 1) m f (omega arith))
 
 sum_below-const : (bound c : ℕ) → sum_below bound (λ _. c) ≡ bound * c
 sum_below-const zero c = omega arith
@@ -58,7 +71,7 @@ rows-at (suc bound) n i row within inside =
     (omega (
       arith,
       length-rows bound row,
-      sum_below-part bound n (λ w. length (row w)) (omega arith),
+      sum_below-part n bound (λ w. length (row w)) (omega arith),
     ))
     ∙ rows-at bound n i row (omega arith) inside)
     (cases_eq n bound)
@@ -85,7 +98,7 @@ begins_within (bound ∷ bounds) (value ∷ values) lengths below =
     omega (
       arith,
       begins_within bounds values (λ others. lengths (value ∷ others)) below.1,
-      sum_below-part bound value (λ w. total bounds (λ others. lengths (w ∷ others))) below.0,
+      sum_below-part value bound (λ w. total bounds (λ others. lengths (w ∷ others))) below.0,
     )
 
 -- an entry of a block stands behind the block's beginning

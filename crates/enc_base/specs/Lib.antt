@@ -1,5 +1,6 @@
 pub mod formers
 pub mod Counts
+pub mod Lends
 pub mod Library
 pub mod Sink
 pub mod Pending
@@ -8,3 +9,5 @@ pub mod MemorySink
 pub mod Host
 pub mod Quantifiers
 pub mod Tables
+pub mod Tuples
+pub mod Names

@@ -1,4 +1,5 @@
-//! Names, lists, boxes, the library of input files, and the sink of output with what waits for it.
+//! Names, lists, boxes, tuples, the library of input files, and the sink of output with what waits
+//! for it.
 #![tactic(auto)]
 
 mod boxed;
@@ -11,6 +12,7 @@ mod memory_sink;
 mod name;
 mod pending;
 mod sink;
+mod tuples;
 
 pub use boxed::Boxed;
 pub use error::{Failed, NoMemory, ReadFault};
@@ -22,3 +24,4 @@ pub use memory_sink::MemorySink;
 pub use name::Name;
 pub use pending::Pending;
 pub use sink::Sink;
+pub use tuples::{next_tuple, next_tuple_below};
