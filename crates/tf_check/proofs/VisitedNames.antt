@@ -16,7 +16,8 @@ use Rattle.tptp_syntax.specs.declared.formula.RawFormula.TheOpen.{RawFormula-F}
 use Rattle.tptp_syntax.specs.declared.formula.RawFormula.TheOpen as formula
 use Rattle.tptp_syntax.specs.declared.formula.RawFormula.TheFolds.{ind-RawFormula, map-RawFormula}
 use Rattle.tptp_syntax.specs.declared.formula.RawFormula.TheFolds.{fold-roll-RawFormula}
-use Rattle.tptp_syntax.specs.FileNames.{Bytes, IsWritable, all_names, term_names, term_names_at, bound_names}
+use Rattle.enc_base.specs.Names.{IsWritable}
+use Rattle.tptp_syntax.specs.FileNames.{Bytes, all_names, term_names, term_names_at, bound_names}
 use Rattle.tptp_syntax.specs.FileNames.{formula_names, formula_names_at}
 use Rattle.tf_core.specs.declared.signature.Symbol.{Symbol}
 use Rattle.tf_check.specs.Names.{Occurrence, names_of_term, names_of_term_at, names_of_formula}

@@ -1,7 +1,7 @@
 -- The names of a typed problem can be written where those of its file can, since they stand in it.
 use Rattle.std.specs.Prelude.{◌≡◌, ℕ, ◌+◌, not, List, [], ◌∷◌, ◌++◌, map}
 use Rattle.std.specs.List.{AllByRecursion, enumerate_from}
-use Rattle.std.proofs.Common.{refl, sym, ap, ◌∙◌, subst}
+use Rattle.std.proofs.Common.{refl, sym, ap, ◌∙◌, subst, length, arith}
 use Rattle.tptp_syntax.specs.declared.types.TypeExpr.{TypeExpr, roll-TypeExpr}
 use Rattle.tptp_syntax.specs.declared.types.TypeExpr.TheOpen.{TypeExpr-F}
 use Rattle.tptp_syntax.specs.declared.types.TypeExpr.TheOpen as type
@@ -12,7 +12,8 @@ use Rattle.tptp_syntax.specs.declared.entry.Entry.{Entry}
 use Rattle.tptp_syntax.specs.declared.entry.Entry.TheVariants.{Declaration, Statement}
 use Rattle.tptp_syntax.specs.declared.entry.File.{File}
 use Rattle.tptp_syntax.specs.FileNames.{formula_names, entry_names}
-use Rattle.tptp_syntax.specs.FileNames.{IsWritable, IsWritableFile}
+use Rattle.enc_base.specs.Names.{IsWritable}
+use Rattle.tptp_syntax.specs.FileNames.{IsWritableFile}
 use Rattle.tf_core.specs.declared.signature.Constructor.{Constructor}
 use Rattle.tf_core.specs.declared.signature.Symbol.{Symbol}
 use Rattle.tf_core.specs.declared.signature.Signature.{Signature}
@@ -124,6 +125,11 @@ stated_writable n (Statement label role f ∷ entries) all =
 abbrev IsNamedConstructor : Constructor → Type 0
 IsNamedConstructor constructor = IsWritable constructor.name
 
+individuals-writable : IsNamedConstructor individuals_constructor
+individuals-writable =
+    let two : length individuals_constructor.name ≡ 2 = refl in
+    record { some = omega (arith, two); bytes = (refl, (refl, tt)) }
+
 module _ (file : File) (writable : IsWritableFile file) where
   entries_writable : EntriesWritable file.entries
   entries_writable = all-joined entry_names file.entries writable
@@ -162,7 +168,7 @@ module _ (file : File) (writable : IsWritableFile file) where
   constructors_writable =
       all-first_of_each IsNamedConstructor (λ (constructor : Constructor). constructor.name)
       (individuals_constructor ∷ map declared_constructor (constructor_declarations file)) (
-        (refl, (refl, (refl, tt))),
+        individuals-writable,
         all-map IsNamedConstructor declared_constructor (constructor_declarations file)
             (all-filter (λ (d : Declared). IsWritable d.name) (λ d. (kind d.body).is_kind)
             (declared (entries_of file)) (declared_writable 0 file.entries entries_writable)),

@@ -19,3 +19,4 @@ pub mod Table
 pub mod Core
 pub mod Passes
 pub mod Writable
+pub mod RefusalNumbers

@@ -2,7 +2,8 @@
 -- between quotes.
 use Rattle.std.specs.List.{AllByRecursion}
 use Rattle.tptp_syntax.specs.declared.entry.File.{File}
-use Rattle.tptp_syntax.specs.FileNames.{IsWritable, IsWritableFile}
+use Rattle.enc_base.specs.Names.{IsWritable}
+use Rattle.tptp_syntax.specs.FileNames.{IsWritableFile}
 use Rattle.tf_core.specs.declared.signature.Constructor.{Constructor}
 use Rattle.tf_core.specs.declared.signature.Symbol.{Symbol}
 use Rattle.tf_core.specs.declared.problem.Stated.{Stated}

@@ -1,5 +1,8 @@
 //! Why a file is not well typed.
 
+ghost use Rattle.std.specs.Prelude.{◌≡◌};
+ghost use Rattle.tf_check.specs.RefusalNumbers.{number_of};
+
 use enc_base::{Name, NoMemory};
 use tf_core::Ty;
 use thiserror::Error;
@@ -76,6 +79,28 @@ pub enum TypeError {
     },
     #[error("no memory")]
     Memory,
+}
+
+impl TypeError {
+    /// The number under which the refusal is noted. Want of memory has none.
+    pub fn number(&self) -> Option<u8>
+        ensures { result ≡ number_of self.now }
+    {
+        match self {
+            TypeError::Redeclared { .. } => Some(11),
+            TypeError::BadDeclaration { .. } => Some(12),
+            TypeError::UnknownType { .. } => Some(13),
+            TypeError::FreeVariable { .. } => Some(14),
+            TypeError::Arity { .. } => Some(15),
+            TypeError::Mismatch { .. } => Some(16),
+            TypeError::NotATerm { .. } => Some(17),
+            TypeError::NotAFormula { .. } => Some(18),
+            TypeError::TypeQuantifier { .. } => Some(19),
+            TypeError::SecondConjecture { .. } => Some(20),
+            TypeError::TooManySymbols { .. } => Some(21),
+            TypeError::Memory => None,
+        }
+    }
 }
 
 impl From<NoMemory> for TypeError {

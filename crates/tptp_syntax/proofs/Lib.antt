@@ -1,3 +1,4 @@
+pub mod WritableNames
 pub mod WordFacts
 pub mod WordCounts
 pub mod TreeFacts

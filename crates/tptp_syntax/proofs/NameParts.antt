@@ -1,6 +1,7 @@
 -- Where the names of a tree can be written, so can those of its parts.
 use Rattle.std.proofs.Common.{◌≡◌, List, [], ◌∷◌, ◌++◌, map, sym, subst}
 use Rattle.std.specs.List.{AllByRecursion}
+use Rattle.enc_base.specs.Names.{IsWritable}
 use Rattle.tptp_syntax.specs.declared.types.TypeExpr.{TypeExpr, roll-TypeExpr}
 use Rattle.tptp_syntax.specs.declared.types.TypeExpr.TheVariants as type
 use Rattle.tptp_syntax.specs.declared.types.TypeExpr.TheOpen.{TypeExpr-F}
@@ -17,7 +18,7 @@ use Rattle.tptp_syntax.specs.declared.formula.RawFormula.TheVariants as formula
 use Rattle.tptp_syntax.specs.declared.formula.RawFormula.TheOpen.{RawFormula-F}
 use Rattle.tptp_syntax.specs.declared.formula.RawFormula.TheOpen as formula_layer
 use Rattle.tptp_syntax.specs.declared.formula.RawFormula.TheFolds.{fold-roll-RawFormula}
-use Rattle.tptp_syntax.specs.FileNames.{Bytes, IsWritable, all_names, type_names, type_names_at}
+use Rattle.tptp_syntax.specs.FileNames.{Bytes, all_names, type_names, type_names_at}
 use Rattle.tptp_syntax.specs.FileNames.{bound_names, bound_names_at, term_names, term_names_at}
 use Rattle.tptp_syntax.specs.FileNames.{formula_names, formula_names_at}
 use Rattle.tptp_syntax.proofs.TreeFacts.{AreWritable, TypeHolds, BoundHolds, TermHolds, map-same}

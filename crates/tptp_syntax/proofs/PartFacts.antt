@@ -5,13 +5,13 @@ use Rattle.std.proofs.Common.{refl, arith}
 use Rattle.std.proofs.lemmas.List.Sums.{sum_by-cons}
 use Rattle.std.specs.Prelude.{codes}
 use Rattle.std.specs.List.{AllByRecursion}
+use Rattle.enc_base.specs.Names.{IsWritable}
 use Rattle.tptp_words.specs.Text.{Token}
 use Rattle.tptp_words.specs.Words.{name, variable}
 use Rattle.tptp_phrases.specs.Phrase.{Phrase, empty, word, ◌>>=◌, ◌>>◌}
 use Rattle.tptp_phrases.proofs.Always.{Always, Sized, always_empty, always_word, always_then}
 use Rattle.tptp_phrases.proofs.Always.{always_or, always_many, always_so}
 use Rattle.tptp_syntax.specs.declared.types.Bound.{Bound}
-use Rattle.tptp_syntax.specs.FileNames.{IsWritable}
 use Rattle.tptp_syntax.specs.Strays.{label}
 use Rattle.tptp_syntax.specs.Grammar.{sign, listed, arguments, application, chain, pair, quantified}
 use Rattle.tptp_syntax.proofs.WordFacts.{Spelled, name_writable, variable_writable, label_writable}

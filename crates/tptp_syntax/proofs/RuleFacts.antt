@@ -2,6 +2,7 @@
 use Rattle.std.proofs.Common.{ℕ, ◌+◌, ◌≤◌, List, Some, None, refl, arith}
 use Rattle.std.specs.Prelude.{codes, IsTrue}
 use Rattle.std.specs.List.{AllByRecursion}
+use Rattle.enc_base.specs.Names.{IsWritable}
 use Rattle.tptp_phrases.specs.Phrase.{Phrase}
 use Rattle.tptp_phrases.proofs.Always.{Always, AlwaysRule, Sized, always_empty, always_then}
 use Rattle.tptp_phrases.proofs.Always.{always_or, always_many, always_balanced}
@@ -18,7 +19,7 @@ use Rattle.tptp_syntax.specs.declared.language.Connective.{Connective}
 use Rattle.tptp_syntax.specs.declared.language.Connective.TheVariants as c
 use Rattle.tptp_syntax.specs.declared.language.Language.{Language}
 use Rattle.tptp_syntax.specs.declared.language.Language.TheVariants.{Tff, Fof}
-use Rattle.tptp_syntax.specs.FileNames.{IsWritable, entry_names}
+use Rattle.tptp_syntax.specs.FileNames.{entry_names}
 use Rattle.tptp_syntax.specs.FileSizes.{type_nodes, bound_nodes, term_nodes, formula_nodes}
 use Rattle.tptp_syntax.specs.FileSizes.{entry_nodes, entry_has_chains, file_size}
 use Rattle.tptp_syntax.specs.Grammar.{Kind, type_variable, unit_type, product, type_rule, type_of}

@@ -6,6 +6,7 @@ use Rattle.std.specs.List.{AllByRecursion, list_all}
 use Rattle.std.specs.Prelude.{IsTrue}
 use Rattle.std.proofs.lemmas.Bool.Decides.{nat_tests}
 use Rattle.std.proofs.lemmas.List.{length-map}
+use Rattle.enc_base.specs.Names.{IsWritable}
 use Rattle.tptp_phrases.proofs.Always.{Sized}
 use Rattle.tptp_syntax.specs.declared.types.TypeExpr.{TypeExpr, roll-TypeExpr}
 use Rattle.tptp_syntax.specs.declared.types.TypeExpr.TheVariants as type
@@ -25,7 +26,7 @@ use Rattle.tptp_syntax.specs.declared.formula.RawFormula.TheOpen.{RawFormula-F}
 use Rattle.tptp_syntax.specs.declared.formula.RawFormula.TheOpen as formula_layer
 use Rattle.tptp_syntax.specs.declared.formula.RawFormula.TheFolds.{map-RawFormula}
 use Rattle.tptp_syntax.specs.declared.formula.RawFormula.TheFolds.{fold-roll-RawFormula}
-use Rattle.tptp_syntax.specs.FileNames.{Bytes, IsWritable, all_names, type_names, type_names_at}
+use Rattle.tptp_syntax.specs.FileNames.{Bytes, all_names, type_names, type_names_at}
 use Rattle.tptp_syntax.specs.FileNames.{bound_names, bound_names_at, bound_type_names, term_names}
 use Rattle.tptp_syntax.specs.FileNames.{term_names_at, formula_names, formula_names_at}
 use Rattle.tptp_syntax.specs.FileSizes.{type_nodes, type_nodes_at, bound_nodes, bound_nodes_at}

@@ -5,6 +5,7 @@ use Rattle.std.proofs.Common.{arith, ◌∙◌}
 use Rattle.std.proofs.lemmas.Bool.Decides.{nat_tests}
 use Rattle.std.specs.Char.{is_ascii_lowercase, is_ascii_uppercase, is_ascii_digit}
 use Rattle.std.specs.List.{list_all}
+use Rattle.enc_base.specs.Names.{IsWritable}
 use Rattle.tptp_words.specs.declared.word.WordKind.{WordKind}
 use Rattle.tptp_words.specs.declared.word.WordKind.TheVariants as kind
 use Rattle.tptp_words.specs.Text.{Token, AllPass, IsNameFrom, is_name, is_printable, some_bytes}
@@ -13,7 +14,7 @@ use Rattle.tptp_words.specs.Words.{unescaped, content, name_of, name, variable_o
 use Rattle.tptp_words.specs.Words.{digits_of}
 use Rattle.tptp_words.proofs.Passes.{pass_weaker}
 use Rattle.tptp_words.proofs.Lists.{spelled_some}
-use Rattle.tptp_syntax.specs.FileNames.{IsWritable}
+use Rattle.tptp_syntax.proofs.WritableNames.{IsWritable-passes}
 use Rattle.tptp_syntax.specs.Strays.{label_of, label}
 
 -- the word is spelled as its kind wants it
@@ -40,7 +41,8 @@ name_from : (p : ℕ → Bool) → ((b : ℕ) → p b ≡ true → is_printable 
     → IsNameFrom p s → IsWritable s
 name_from p first [] h = absurd h
 name_from p first (b ∷ bs) h =
-    (refl, (first b h.0, pass_weaker is_name is_printable printable_name bs h.1))
+    IsWritable-passes (b ∷ bs) refl
+    (first b h.0, pass_weaker is_name is_printable printable_name bs h.1)
 
 -- what is escaped is read back up to the closing quote
 unescaped-escaped : (s rest : List ℕ)
@@ -79,7 +81,7 @@ named kind.Lower s n h e =
 named kind.Quoted s n (inner, pass, some, is) e =
     let was : content s ≡ inner = ap content is ∙ unescaped-escaped inner [] in
     let same : content s ≡ n = cc e in
-    subst IsWritable (sym was ∙ same) (some, pass)
+    subst IsWritable (sym was ∙ same) (IsWritable-passes inner some pass)
 named _ s n h e = absurd (cc e)
 
 pub name_writable : (w : Token) (n : List ℕ) → Spelled w → name w ≡ Some n → IsWritable n
@@ -98,7 +100,8 @@ digits s n h e = by_test (list_all is_ascii_digit s) refl e
   where
     by_test : (t : Bool) → list_all is_ascii_digit s ≡ t → (if t then Some s else None) ≡ Some n
         → IsWritable n
-    by_test true pass e = subst IsWritable (cc e) (some_by s h, digits_pass s pass)
+    by_test true pass e =
+        subst IsWritable (cc e) (IsWritable-passes s (some_by s h) (digits_pass s pass))
     by_test false pass e = absurd (cc e)
 
 labelled : (k : WordKind) (s n : List ℕ) → Spells k s → label_of k s ≡ Some n → IsWritable n

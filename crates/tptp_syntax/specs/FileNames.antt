@@ -1,7 +1,7 @@
 -- The names that stand in a file, and that each can be written: as a word, and in a note.
-use Rattle.std.specs.Prelude.{◌≡◌, ℕ, true, List, [], ◌∷◌, ◌++◌, map, Option, Some, None}
+use Rattle.std.specs.Prelude.{ℕ, List, [], ◌∷◌, ◌++◌, map, Option, Some, None}
 use Rattle.std.specs.List.{AllByRecursion}
-use Rattle.tptp_words.specs.Text.{AllPass, is_printable, some_bytes}
+use Rattle.enc_base.specs.Names.{IsWritable}
 use Rattle.tptp_syntax.specs.declared.types.TypeExpr.{TypeExpr}
 use Rattle.tptp_syntax.specs.declared.types.TypeExpr.TheOpen.{TypeExpr-F, Bound-F}
 use Rattle.tptp_syntax.specs.declared.types.TypeExpr.TheOpen as type
@@ -22,10 +22,6 @@ use Rattle.tptp_syntax.specs.declared.entry.File.{File}
 -- a name
 abbrev pub Bytes : Type 0
 Bytes = List ℕ
-
--- at least one byte, and only bytes that may stand between quotes
-abbrev pub IsWritable : Bytes → Type 0
-IsWritable name = (some_bytes name ≡ true) × AllPass is_printable name
 
 -- the lists one after another
 abbrev pub all_names : List (List Bytes) → List Bytes

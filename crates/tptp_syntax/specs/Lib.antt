@@ -8,3 +8,4 @@ pub mod Nesting
 pub mod Descent
 pub mod Ahead
 pub mod Answers
+pub mod RefusalNumbers

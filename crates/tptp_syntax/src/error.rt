@@ -1,5 +1,8 @@
 //! Why a text is refused.
 
+ghost use Rattle.std.specs.Prelude.{◌≡◌};
+ghost use Rattle.tptp_syntax.specs.RefusalNumbers.{number_of};
+
 use thiserror::Error;
 
 /// Why a text spells no file within the limits. A place is that of the refused word, or the end of
@@ -38,4 +41,25 @@ pub enum ReadError {
     TooLong { length: usize },
     #[error("no memory")]
     Memory,
+}
+
+impl ReadError {
+    /// The number under which the refusal is noted. Want of memory has none.
+    pub fn number(&self) -> Option<u8>
+        ensures { result ≡ number_of self.now }
+    {
+        match self {
+            ReadError::BadByte { .. } => Some(1),
+            ReadError::Unclosed { .. } => Some(2),
+            ReadError::Syntax { .. } => Some(3),
+            ReadError::TooDeep { .. } => Some(4),
+            ReadError::Language { .. } => Some(5),
+            ReadError::Role { .. } => Some(6),
+            ReadError::Number { .. } => Some(7),
+            ReadError::DistinctObject { .. } => Some(8),
+            ReadError::Include { .. } => Some(9),
+            ReadError::TooLong { .. } => Some(10),
+            ReadError::Memory => None,
+        }
+    }
 }
