@@ -3,8 +3,10 @@ use Rattle.std.specs.Prelude.{ℕ, zero, suc, ◌≡◌, ◌<◌, ◌≤◌, ◌
 use Rattle.std.proofs.Common.{refl, sym, ap, ◌∙◌, subst, arith}
 use Rattle.std.proofs.lemmas.Bool.{and_parts, ltb-true}
 use Rattle.std.proofs.lemmas.List.{take_more, map-append, get_or-reverse}
-use Rattle.enc_base.specs.Tables.{tuple_count, place, EachBelow}
-use Rattle.enc_base.proofs.Tables.{place_within, EachBelow-length, place-more, EachBelow-more, tuple_count-grows}
+use Rattle.enc_base.specs.Tables.{tuple_count, place}
+use Rattle.enc_base.specs.Tuples.{IsPlaced}
+use Rattle.enc_base.proofs.Placing.{placed_within}
+use Rattle.enc_base.proofs.Tables.{EachBelow-length, place-more, EachBelow-more, tuple_count-grows}
 use Rattle.fof_models.specs.declared.problem.FofSymbol.{FofSymbol}
 use Rattle.fof_models.specs.declared.formula.FofTerm.{FofTerm}
 use Rattle.fof_models.specs.declared.formula.FofTerm.TheVariants as term
@@ -12,36 +14,30 @@ use Rattle.fof_models.specs.declared.structure.Structure.{Structure}
 use Rattle.fof_models.specs.Structures.{table_of, reading, IsWellFormed}
 use Rattle.fof_models.specs.Truth.{value}
 use Rattle.fof_models.specs.Sound.{is_symbol, is_term, are_terms}
-use Rattle.fof_models.specs.Evaluation.{value_in, IsPlaced}
+use Rattle.fof_models.specs.Evaluation.{value_in}
 use Rattle.fof_models.proofs.Truth.{value-variable, value-apply}
 use Rattle.fof_models.proofs.Sound.{is_term-variable, is_term-apply}
 use Rattle.fof_models.proofs.Agreement.{is_symbol-says}
 
-pub IsPlaced-none : (bound : ℕ) → IsPlaced bound [] 0 0
+pub IsPlaced-none : (bound : ℕ) → IsPlaced (replicate 0 bound) [] 0
 IsPlaced-none bound = record { place_is = refl; below = tt }
 
 pub IsPlaced-more : (bound value count at : ℕ) (values : List ℕ) →
-    IsPlaced bound values count at → value < bound →
-    IsPlaced bound (values ++ value ∷ []) (count + 1) (at * bound + value)
+    IsPlaced (replicate count bound) values at → value < bound →
+    IsPlaced (replicate (count + 1) bound) (values ++ value ∷ []) (at * bound + value)
 IsPlaced-more bound value count at values placed within =
     let next : suc count ≡ count + 1 = omega arith in
-    record {
+    subst (λ n. IsPlaced (replicate n bound) (values ++ value ∷ []) (at * bound + value)) next
+    (record {
       place_is =
           ap (λ a. a * bound + value) placed.place_is
-          ∙ sym (place-more bound value count values (EachBelow-length count bound values placed.below))
-          ∙ ap (λ n. place (replicate n bound) (values ++ value ∷ [])) next;
-      below = subst (λ n. EachBelow (replicate n bound) (values ++ value ∷ [])) next
-          (EachBelow-more bound value count values placed.below within);
-    }
-
-pub placed_within : (bound count at : ℕ) (values : List ℕ) → IsPlaced bound values count at →
-    at < tuple_count (replicate count bound)
-placed_within bound count at values placed =
-    omega (arith, placed.place_is, place_within (replicate count bound) values placed.below)
+          ∙ sym (place-more bound value count values (EachBelow-length count bound values placed.below));
+      below = EachBelow-more bound value count values placed.below within;
+    })
 
 -- a step of the place stays within the table of more arguments
 pub placed_fits : (bound value count at arity : ℕ) (values : List ℕ) →
-    IsPlaced bound values count at → value < bound → count < arity →
+    IsPlaced (replicate count bound) values at → value < bound → count < arity →
     at * bound + value < tuple_count (replicate arity bound)
 placed_fits bound value count at arity values placed within more =
     let next = IsPlaced-more bound value count at values placed within in
@@ -49,19 +45,23 @@ placed_fits bound value count at arity values placed within more =
     let grows : tuple_count (replicate (count + 1) bound) ≤ tuple_count (replicate arity bound) =
     subst (λ n. tuple_count (replicate (count + 1) bound) ≤ tuple_count (replicate n bound)) whole
     (tuple_count-grows bound (count + 1) (arity - (count + 1)) (omega arith)) in
-    omega (arith, placed_within bound (count + 1) (at * bound + value) (values ++ value ∷ []) next, grows)
+    omega (
+      arith,
+      placed_within (replicate (count + 1) bound) (values ++ value ∷ []) (at * bound + value) next,
+      grows,
+    )
 
 -- one term more
 pub placed_step : (bound i at v : ℕ) (f : FofTerm → ℕ) (terms : List FofTerm) (t : FofTerm) →
-    i < length terms → t ≡ get_or terms i t → IsPlaced bound (map f (take i terms)) i at →
-    v ≡ f t → v < bound →
-    IsPlaced bound (map f (take (i + 1) terms)) (i + 1) (at * bound + v)
+    i < length terms → t ≡ get_or terms i t →
+    IsPlaced (replicate i bound) (map f (take i terms)) at → v ≡ f t → v < bound →
+    IsPlaced (replicate (i + 1) bound) (map f (take (i + 1) terms)) (at * bound + v)
 placed_step bound i at v f terms t inside is placed same within =
     let more : map f (take (i + 1) terms) ≡ map f (take i terms) ++ v ∷ [] =
     ap (map f) (take_more terms i t inside)
     ∙ map-append f (take i terms) (get_or terms i t ∷ [])
     ∙ ap (λ y. map f (take i terms) ++ y ∷ []) (ap f (sym is) ∙ sym same) in
-    subst (λ vs. IsPlaced bound vs (i + 1) (at * bound + v)) (sym more)
+    subst (λ vs. IsPlaced (replicate (i + 1) bound) vs (at * bound + v)) (sym more)
     (IsPlaced-more bound v i at (map f (take i terms)) placed within)
 
 -- the symbol's table
@@ -94,7 +94,7 @@ module _ (signature : List FofSymbol) (s : Structure) (f : ℕ) (predicate : Boo
 
 -- the entry at the place of a tuple
 pub entry_is : (s : Structure) (f at count : ℕ) (values table : List ℕ) → table ≡ table_of s f →
-    count ≡ length values → IsPlaced s.size values count at →
+    count ≡ length values → IsPlaced (replicate count s.size) values at →
     slice_index table at ≡ (reading s).symbol_at f values
 entry_is s f at count values table same long placed =
     ap (λ t. slice_index t at) same

@@ -6,12 +6,13 @@ use Rattle.std.proofs.lemmas.Bool.{cases_eq, cases_lt, false≢true}
 use Rattle.std.proofs.lemmas.List.{length-append, get_or_append_left, get_or-append_right}
 use Rattle.enc_base.specs.Tables.{EachBelow, tuple_count, place}
 use Rattle.enc_base.proofs.Tables.{place_within}
+use Rattle.enc_base.proofs.TupleOrder.{place-same}
 use Rattle.fof_models.specs.declared.formula.Fof.{Fof}
 use Rattle.fof_models.specs.declared.problem.FofSymbol.{FofSymbol}
 use Rattle.fof_models.specs.declared.structure.Structure.{Structure}
 use Rattle.fof_models.specs.Structures.{AreElements}
 use Rattle.fof_models.specs.Evaluation.{true_in, IsReady, IsEach, IsTuple}
-use Rattle.fof_models.proofs.Tuples.{place-same, IsTuple-none, IsTuple-zeros, number_within, number_behind}
+use Rattle.fof_models.proofs.Tuples.{IsTuple-none, IsTuple-zeros, number_within, number_behind}
 
 -- a tuple's parts are elements, and so are the items that end in it
 

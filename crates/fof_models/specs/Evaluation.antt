@@ -31,11 +31,6 @@ pub record IsReady (signature : List FofSymbol) (s : Structure) (items : List �
   pub well_formed : IsWellFormed signature s
   pub elements : AreElements s.size items
 
--- so many numbers below a bound, and the place of their tuple
-pub record IsPlaced (bound : ℕ) (values : List ℕ) (count at : ℕ) : Type 0 where
-  pub place_is : at ≡ place (replicate count bound) values
-  pub below : EachBelow (replicate count bound) values
-
 -- whether a formula has a truth value for each tuple of so many elements more
 abbrev pub IsEach : Structure → List ℕ → Fof → ℕ → Bool → Type 0
 IsEach s items body count value =

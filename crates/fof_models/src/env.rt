@@ -1,8 +1,8 @@
-ghost use Rattle.std.specs.Prelude.{ℕ, ◌≡◌, ◌<◌, ◌≤◌, ◌+◌, ◌-◌, true, false, List, [], ◌∷◌, ◌++◌, length, take, replicate, slice_index, IfOk};
-ghost use Rattle.enc_base.specs.Tables.{tuple_count};
+ghost use Rattle.std.specs.Prelude.{ℕ, ◌≡◌, ◌<◌, ◌≤◌, ◌+◌, ◌-◌, true, false, List, [], ◌∷◌, ◌++◌, length, take, drop, replicate, slice_index, IfOk};
+ghost use Rattle.enc_base.specs.Tables.{EachBelow, tuple_count};
 ghost use Rattle.fof_models.specs.Evaluation.{IsTuple};
 
-use enc_base::NoMemory;
+use enc_base::{NoMemory, next_tuple_below};
 use std::alloc::Global;
 use std::marker::Model;
 
@@ -78,9 +78,8 @@ impl FofEnv {
     /// Replaces so many elements, the last ones, by the next tuple of numbers below a bound. Where
     /// there is none, it removes them. Says whether there is one.
     pub(crate) fn next_tuple(&mut self, count: usize, bound: u32) -> bool
-        requires some { 0 < bound }
         requires there { count ≤ length self.old.items }
-        requires room { length self.old.items ≤ self.old.room }
+        requires below { EachBelow (replicate count bound) (drop (length self.old.items - count) self.old.items) }
         ensures next { result ≡ true → (front : List ℕ) (number : ℕ) →
             IsTuple bound count front self.old.items number →
             IsTuple bound count front self.new.items (number + 1) }
@@ -89,15 +88,11 @@ impl FofEnv {
             (self.new.items ≡ front) × (number + 1 ≡ tuple_count (replicate count bound)) }
         ensures kept { self.new.room ≡ self.old.room }
     {
-        for removed in 0..count {
-            let element = self.element(0);
-            self.unbind();
-            if element < bound - 1 {
-                self.bind(element + 1);
-                self.bind_zeros(removed);
-                return true;
-            }
+        let front = self.used - count;
+        if next_tuple_below(&mut self.slots[front..self.used], bound) {
+            return true;
         }
+        self.used = front;
         false
     }
 

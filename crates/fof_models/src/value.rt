@@ -1,8 +1,9 @@
 ghost use Rattle.std.specs.Prelude.{◌≡◌, ◌<◌, false, map, length, replicate, IsTrue, slice_get};
 ghost use Rattle.enc_base.specs.Tables.{tuple_count};
+ghost use Rattle.enc_base.specs.Tuples.{IsPlaced};
 ghost use Rattle.fof_models.specs.Structures.{table_of, reading};
 ghost use Rattle.fof_models.specs.Sound.{is_symbol, is_term, are_terms};
-ghost use Rattle.fof_models.specs.Evaluation.{value_in, IsReady, IsPlaced};
+ghost use Rattle.fof_models.specs.Evaluation.{value_in, IsReady};
 
 use crate::env::FofEnv;
 use crate::formula::FofTerm;
@@ -58,7 +59,8 @@ impl Structure {
         requires ready { IsReady signature.now self.now env.now.items }
         requires entries { length table.now ≡ tuple_count (replicate (length terms.now) self.now.size) }
         requires sound { IsTrue (are_terms signature.now terms.now (length env.now.items)) }
-        ensures { IsPlaced self.now.size (map (value_in self.now env.now.items) terms.now) (length terms.now) result }
+        ensures { IsPlaced (replicate (length terms.now) self.now.size)
+            (map (value_in self.now env.now.items) terms.now) result }
     {
         let mut at = 0usize;
         for term in terms {

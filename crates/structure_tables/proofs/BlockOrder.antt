@@ -2,11 +2,10 @@
 use Rattle.std.specs.Prelude.{ℕ, zero, suc, ◌≡◌, ◌<◌, ◌+◌, ◌*◌, List, [], ◌∷◌, ◌++◌, length, replicate}
 use Rattle.std.proofs.Common.{refl, sym, ap, ◌∙◌, arith, append_assoc}
 use Rattle.enc_base.specs.Tables.{EachBelow, tuple_count, place, rows, blocks}
+use Rattle.enc_base.specs.Tuples.{tuple_at, IsNext, IsLast}
+use Rattle.enc_base.proofs.NumberedTuples.{place-tuple_at, tuple_at_below, tuple_at-place}
+use Rattle.enc_base.proofs.TupleOrder.{place-zeros-over}
 use Rattle.tf_core.specs.Structures.{Typed, member_count}
-use Rattle.tf_models.specs.TupleNumbers.{tuple_at}
-use Rattle.tf_models.proofs.NumberedTuples.{place-tuple_at, tuple_at_below, tuple_at-place}
-use Rattle.structure_tables.specs.TupleOrder.{IsNext, IsLast}
-use Rattle.structure_tables.proofs.TupleOrder.{place-zeros-over}
 
 -- rows
 

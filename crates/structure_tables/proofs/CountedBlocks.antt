@@ -4,9 +4,9 @@ use Rattle.std.proofs.Common.{refl, sym, ap, ◌∙◌, arith, ⊎_elim}
 use Rattle.std.proofs.lemmas.Nat.{div-mul-add}
 use Rattle.std.proofs.lemmas.Bool.{cases_eq}
 use Rattle.enc_base.specs.Tables.{EachBelow, sum_below, tuple_count, place, total, begins}
+use Rattle.enc_base.specs.Counts.{in_64_bits}
+use Rattle.enc_base.specs.Tuples.{IsNext, IsLast}
 use Rattle.enc_base.proofs.Tables.{place_within, begins_within}
-use Rattle.tf_models.specs.Evaluation.{in_64_bits}
-use Rattle.structure_tables.specs.TupleOrder.{IsNext, IsLast}
 use Rattle.structure_tables.proofs.CountedAlike.{alike_products, alike_itself, product_enough}
 
 -- numbers with one remainder and one quotient

@@ -8,16 +8,16 @@ use Rattle.enc_base.specs.Tables.{EachBelow, sum_below, total, begins}
 use Rattle.enc_base.proofs.Tables.{sum_below-same}
 use Rattle.structure_tables.specs.declared.ways.Ways.{Ways}
 use Rattle.structure_tables.specs.declared.ways.Ways.TheVariants.{One, Many}
-use Rattle.tf_models.specs.Evaluation.{in_64_bits}
 use Rattle.structure_tables.specs.TypeWays.{one_at, ways_together}
 use Rattle.structure_tables.specs.CountedWays.{AreWaysTo, CountWays, ways_to, is_one, choices_of, choice_at, count_at, choices_at, counts_at, ways_by, AreWays}
 use Rattle.structure_tables.proofs.Tabling.{zeros_at}
 use Rattle.structure_tables.proofs.ProductSums.{total-each, total-factor}
 use Rattle.structure_tables.proofs.CountedAlike.{AreAlike, alike_itself, alike_products, sum_below-alike}
 use Rattle.structure_tables.proofs.FoldedTuples.{sum_below-one}
-use Rattle.structure_tables.specs.TupleOrder.{IsNext, IsLast}
 use Rattle.structure_tables.proofs.CountedBlocks.{count_first, counted_last, counted_next}
 use Rattle.std.proofs.lemmas.List.{length-map}
+use Rattle.enc_base.specs.Counts.{in_64_bits}
+use Rattle.enc_base.specs.Tuples.{IsNext, IsLast}
 
 -- choices, a part more
 

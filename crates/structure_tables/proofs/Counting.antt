@@ -3,10 +3,10 @@ use Rattle.std.specs.Prelude.{ℕ, zero, suc, ◌≡◌, ◌<◌, ◌≤◌, ◌
 use Rattle.std.proofs.Common.{sym, ap, subst, ◌∙◌, arith, mul_comm}
 use Rattle.enc_base.specs.Tables.{tuple_count}
 use Rattle.enc_base.proofs.Tables.{tuple_count-more, tuple_count-grows, tuple_count-one}
-use Rattle.tf_models.specs.Evaluation.{in_64_bits}
 use Rattle.tf_models.proofs.SymbolBlocks.{in_64_bits-times}
-use Rattle.tf_models.proofs.Placing.{tuple_count-next}
 use Rattle.std.proofs.lemmas.List.Sums.{sum_by_more, sum_by-take-le}
+use Rattle.enc_base.specs.Counts.{in_64_bits}
+use Rattle.enc_base.proofs.Placing.{tuple_count-next}
 
 pub in_64_bits-plus : (a b : ℕ) → in_64_bits (in_64_bits a + in_64_bits b) ≡ in_64_bits (a + b)
 in_64_bits-plus a b = omega arith

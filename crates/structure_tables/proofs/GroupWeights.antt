@@ -4,10 +4,10 @@ use Rattle.std.proofs.Common.{refl, sym, ap, subst, ◌∙◌, arith}
 use Rattle.std.proofs.lemmas.Bool.{eq-eqb, ne_eqb}
 use Rattle.std.proofs.lemmas.List.{length-map, take-map}
 use Rattle.enc_base.specs.Tables.{EachBelow, tuple_count}
+use Rattle.enc_base.specs.Counts.{in_64_bits}
+use Rattle.enc_base.proofs.Placing.{get_or-mapped}
 use Rattle.tf_core.specs.declared.ty.Ty.{Ty}
 use Rattle.tf_core.specs.Structures.{Typed, member_count}
-use Rattle.tf_models.specs.Evaluation.{in_64_bits}
-use Rattle.tf_models.proofs.Placing.{get_or-mapped}
 use Rattle.structure_tables.specs.ParameterSets.{bounds_of}
 use Rattle.structure_tables.specs.TypeWays.{sizes_of_type}
 use Rattle.structure_tables.specs.ParameterGroups.{group_of_type, sizes_inside}

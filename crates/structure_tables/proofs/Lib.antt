@@ -1,7 +1,6 @@
 pub mod TypedAgreement
 pub mod TypedTabled
 pub mod TypedModels
-pub mod TupleOrder
 pub mod Tabling
 pub mod Counting
 pub mod BlockOrder

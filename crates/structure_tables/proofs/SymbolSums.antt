@@ -7,6 +7,7 @@ use Rattle.std.proofs.lemmas.Bool.{false≢true, cases_lt, lt-ltb, ne_eqb}
 use Rattle.std.proofs.lemmas.List.Elements.{All-head, All-tail}
 use Rattle.std.proofs.lemmas.List.Sums.{sum_by-cons}
 use Rattle.enc_base.specs.Tables.{EachBelow, sum_below, tuple_count, total}
+use Rattle.enc_base.specs.Counts.{in_64_bits}
 use Rattle.tf_core.specs.declared.ty.Ty.{Ty}
 use Rattle.tf_core.specs.declared.ty.Ty.TheVariants as type
 use Rattle.tf_core.specs.declared.signature.Symbol.{Symbol}
@@ -15,7 +16,6 @@ use Rattle.tf_core.specs.Typing.{IsType, type_variable, type_apply, AreTypes, no
 use Rattle.tf_core.specs.Structures.{Typed, member_count, member_of, size_of, IsStructure}
 use Rattle.tf_core.proofs.Types.{type_value-variable, type_value-apply}
 use Rattle.tf_core.proofs.Induction.{type_induction}
-use Rattle.tf_models.specs.Evaluation.{in_64_bits}
 use Rattle.structure_tables.specs.EntryCounts.{symbol_count}
 use Rattle.structure_tables.specs.ParameterSets.{bounds_of, uses_of}
 use Rattle.structure_tables.specs.TypeWays.{one_at, ways_together, type_ways, sizes_of_type}

@@ -1,12 +1,11 @@
 -- Tables that are made an entry, or a table, at a time.
-use Rattle.std.specs.Prelude.{ℕ, zero, suc, ◌≡◌, ◌<◌, ◌≤◌, ◌+◌, ◌-◌, List, [], ◌∷◌, ◌++◌, length, replicate, take, drop, get_or, slice_index}
-use Rattle.std.proofs.Common.{refl, sym, ap, subst, ◌∙◌, arith, append_assoc}
+use Rattle.std.specs.Prelude.{ℕ, zero, suc, ◌≡◌, ◌<◌, ◌≤◌, ◌+◌, List, [], ◌∷◌, ◌++◌, length, replicate, take, get_or, slice_index}
+use Rattle.std.proofs.Common.{refl, sym, ap, ◌∙◌, arith, append_assoc}
 use Rattle.std.proofs.lemmas.List.{take_more, take_all}
-use Rattle.std.proofs.Math.Seq.{take-append_seam}
-use Rattle.enc_base.specs.Tables.{EachBelow, tuple_count, place, table}
+use Rattle.enc_base.specs.Tables.{EachBelow, place, table}
+use Rattle.enc_base.specs.Tuples.{IsNext, IsLast}
 use Rattle.enc_base.proofs.Tables.{place_within, length-table, table-at}
-use Rattle.structure_tables.specs.TupleOrder.{IsNext, IsLast}
-use Rattle.structure_tables.proofs.TupleOrder.{place-zeros}
+use Rattle.enc_base.proofs.TupleOrder.{place-zeros}
 
 -- the first tuple
 
@@ -14,11 +13,6 @@ pub zeros_at : (count i : ℕ) → slice_index (replicate count 0) i ≡ 0
 zeros_at zero i = refl
 zeros_at (suc count) zero = refl
 zeros_at (suc count) (suc i) = zeros_at count i
-
-pub zeros_below : (count bound : ℕ) → 0 < bound →
-    EachBelow (replicate count bound) (replicate (length (replicate count bound)) 0)
-zeros_below zero bound some = tt
-zeros_below (suc count) bound some = (some, zeros_below count bound some)
 
 -- an entry more
 
@@ -96,16 +90,3 @@ module _ {A : Type 0} (one : A → ℕ → List ℕ) (all : List A → ℕ → L
         length-take-within zero xs le = refl
         length-take-within (suc n) [] le = absurd (omega arith)
         length-take-within (suc n) (x ∷ xs) le = ap suc (length-take-within n xs (omega arith))
-
--- the entries that are left
-pub fewer_left : (bounds values after : List ℕ) → IsNext bounds values after →
-    tuple_count bounds - place bounds after < tuple_count bounds - place bounds values
-fewer_left bounds values after next =
-    omega (arith, next.place_is, place_within bounds after next.below)
-
--- a vector whose items were all replaced
-pub take_written : (count : ℕ) (after before : List ℕ) → length after ≡ count →
-    take count (after ++ drop (length after) before) ≡ after
-take_written count after before long =
-    subst (λ n. take n (after ++ drop (length after) before) ≡ after) long
-    (take-append_seam after (drop (length after) before))

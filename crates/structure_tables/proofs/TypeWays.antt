@@ -3,6 +3,7 @@ use Rattle.std.specs.Prelude.{ℕ, ◌≡◌, ◌<◌, ◌+◌, ◌*◌, Bool, t
 use Rattle.std.proofs.Common.{refl, sym, ap, subst, ◌∙◌}
 use Rattle.std.proofs.lemmas.List.{length-map, map-append, take_more}
 use Rattle.enc_base.specs.Tables.{EachBelow, sum_below, total}
+use Rattle.enc_base.specs.Counts.{in_64_bits}
 use Rattle.tf_core.specs.declared.ty.Ty.{Ty, roll-Ty}
 use Rattle.tf_core.specs.declared.ty.Ty.TheVariants as type
 use Rattle.tf_core.specs.declared.ty.Ty.TheOpen.{Ty-F}
@@ -13,7 +14,6 @@ use Rattle.tf_core.specs.Typing.{IsType}
 use Rattle.tf_core.specs.Structures.{Typed, member_count, member_of}
 use Rattle.tf_models.proofs.Inversion.{application_parts}
 use Rattle.structure_tables.specs.Sources.{AreMembersFor}
-use Rattle.tf_models.specs.Evaluation.{in_64_bits}
 use Rattle.structure_tables.specs.declared.ways.Ways.{Ways}
 use Rattle.structure_tables.specs.declared.ways.Ways.TheVariants.{One}
 use Rattle.structure_tables.specs.CountedWays.{CountWays, AreWays, ways_by, ways_to}

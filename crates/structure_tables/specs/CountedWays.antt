@@ -1,9 +1,9 @@
 -- How ways are counted: what code keeps of them, and what it finds for tuples of them.
 use Rattle.std.specs.Prelude.{ℕ, ◌≡◌, ◌<◌, ◌*◌, Bool, true, false, List, [], ◌∷◌, map, length, slice_index}
 use Rattle.enc_base.specs.Tables.{total}
+use Rattle.enc_base.specs.Counts.{in_64_bits}
 use Rattle.structure_tables.specs.declared.ways.Ways.{Ways}
 use Rattle.structure_tables.specs.declared.ways.Ways.TheVariants.{One, Many}
-use Rattle.tf_models.specs.Evaluation.{in_64_bits}
 use Rattle.structure_tables.specs.TypeWays.{one_at}
 
 -- it is about the members there are

@@ -4,7 +4,6 @@ pub mod Laws
 pub mod Sources
 pub mod EntryCounts
 -- how tuples are gone through and entries counted, of which nothing need be believed
-pub mod TupleOrder
 pub mod ParameterSets
 pub mod TypeWays
 pub mod CountedWays

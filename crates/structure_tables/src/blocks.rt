@@ -5,11 +5,11 @@ ghost use Rattle.tf_core.specs.Structures.{argument_sizes, member_count, AreArgu
 ghost use Rattle.structure_tables.specs.Sources.{AreArgumentsFor, IsSized};
 ghost use Rattle.structure_tables.specs.TypedTabled.{symbol_block, symbol_table};
 
-use crate::tuples::{TupleFunction, append_table, next_tuple, repeated, with_room};
+use crate::tuples::{TupleFunction, append_table, repeated, with_room};
 use crate::typed::TypedSource;
 use crate::typed_counts::entries_of_symbol;
 use crate::types::member_of_type;
-use enc_base::{List, NoMemory};
+use enc_base::{List, NoMemory, next_tuple};
 use std::alloc::Global;
 use tf_core::Symbol;
 

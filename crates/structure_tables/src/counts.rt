@@ -1,6 +1,6 @@
 ghost use Rattle.std.specs.Prelude.{◌≡◌, replicate};
 ghost use Rattle.enc_base.specs.Tables.{tuple_count};
-ghost use Rattle.tf_models.specs.Evaluation.{in_64_bits};
+ghost use Rattle.enc_base.specs.Counts.{in_64_bits};
 ghost use Rattle.structure_tables.specs.EntryCounts.{untyped_count};
 
 use fof_models::FofSymbol;

@@ -1,8 +1,8 @@
 ghost use Rattle.std.specs.Prelude.{◌≡◌, ◌*◌, cond, eqb, ltb, false, length, replicate, IfOk};
 ghost use Rattle.enc_base.specs.Tables.{EachBelow, tuple_count};
+ghost use Rattle.enc_base.specs.Counts.{in_64_bits};
 ghost use Rattle.tf_core.specs.Typing.{IsSymbol};
 ghost use Rattle.tf_core.specs.Structures.{member_count};
-ghost use Rattle.tf_models.specs.Evaluation.{in_64_bits};
 ghost use Rattle.structure_tables.specs.EntryCounts.{symbol_count};
 ghost use Rattle.structure_tables.specs.ParameterSets.{bounds_of};
 ghost use Rattle.structure_tables.specs.ParameterGroups.{sizes_inside, count_inside, kept_inside, is_kept, is_unused, AreGroups, AreUses};
@@ -10,10 +10,10 @@ ghost use Rattle.structure_tables.specs.Sources.{IsSized};
 
 use crate::counts::multiply;
 use crate::groups::{Groups, groups_of};
-use crate::tuples::{next_tuple, repeated};
+use crate::tuples::repeated;
 use crate::type_ways::add_sizes_of_type;
 use crate::typed::TypedSource;
-use enc_base::{List, NoMemory};
+use enc_base::{List, NoMemory, next_tuple};
 use std::alloc::Global;
 use tf_core::Symbol;
 

@@ -1,9 +1,8 @@
 ghost use Rattle.std.specs.Prelude.{◌≡◌, ◌<◌, ◌++◌, ℕ, List, [], true, false, length, replicate, OnOk, IfOk};
 ghost use Rattle.enc_base.specs.Tables.{EachBelow, table};
-ghost use Rattle.structure_tables.specs.TupleOrder.{IsNext, IsLast};
 
 use crate::counts::count_tuples;
-use enc_base::{List, NoMemory};
+use enc_base::{List, NoMemory, next_tuple};
 use std::alloc::Global;
 
 /// A function of tuples of numbers.
@@ -75,20 +74,4 @@ pub(crate) fn repeated(alloc: Global, number: u32, count: usize) -> Result<Vec<u
         Ok(numbers) => Ok(numbers),
         Err(_) => Err(NoMemory),
     }
-}
-
-/// Replaces a tuple of numbers below bounds by the next one. Says whether there is one.
-pub(crate) fn next_tuple(values: &mut [u32], bounds: &[u32]) -> bool
-    requires below { EachBelow bounds.now values.old }
-    ensures next { result ≡ true → IsNext bounds.now values.old values.new }
-    ensures last { result ≡ false → IsLast bounds.now values.old }
-{
-    for i in (0..bounds.len()).rev() {
-        if values[i] + 1 < bounds[i] {
-            values[i] += 1;
-            return true;
-        }
-        values[i] = 0;
-    }
-    false
 }

@@ -1,9 +1,9 @@
 ghost use Rattle.std.specs.Prelude.{◌≡◌, ℕ, List, map, length, replicate, IfOk};
 ghost use Rattle.std.specs.List.{All};
 ghost use Rattle.enc_base.specs.Tables.{EachBelow};
+ghost use Rattle.enc_base.specs.Counts.{in_64_bits};
 ghost use Rattle.tf_core.specs.Typing.{IsType, AreTypes};
 ghost use Rattle.tf_core.specs.Structures.{member_count, IsStructure};
-ghost use Rattle.tf_models.specs.Evaluation.{in_64_bits};
 ghost use Rattle.structure_tables.specs.CountedWays.{AreWaysTo, CountWays, AreWays, ways_by};
 ghost use Rattle.structure_tables.specs.ParameterGroups.{is_kept};
 ghost use Rattle.structure_tables.specs.Sources.{AreMembersFor, IsSized};

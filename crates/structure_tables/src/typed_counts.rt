@@ -1,9 +1,9 @@
 ghost use Rattle.std.specs.Prelude.{◌≡◌, ◌+◌, ◌<◌, ◌^◌, length, replicate, slice_index, sum, sum_by, true, IfOk};
 ghost use Rattle.std.specs.List.{All};
 ghost use Rattle.enc_base.specs.Tables.{EachBelow, tuple_count};
+ghost use Rattle.enc_base.specs.Counts.{in_64_bits};
 ghost use Rattle.tf_core.specs.Typing.{IsSymbol, IsSignature};
 ghost use Rattle.tf_core.specs.Structures.{argument_sizes, member_count};
-ghost use Rattle.tf_models.specs.Evaluation.{in_64_bits};
 ghost use Rattle.structure_tables.specs.EntryCounts.{typed_count, symbol_count};
 ghost use Rattle.structure_tables.specs.Sources.{IsSized};
 

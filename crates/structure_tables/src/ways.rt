@@ -1,12 +1,12 @@
 ghost use Rattle.std.specs.Prelude.{◌≡◌, ◌<◌, ◌+◌, ◌*◌, ℕ, List, true, length, map, replicate, slice_index, IfOk, OnOk};
 ghost use Rattle.std.specs.List.{All};
 ghost use Rattle.enc_base.specs.Tables.{EachBelow, sum_below};
-ghost use Rattle.tf_models.specs.Evaluation.{in_64_bits};
+ghost use Rattle.enc_base.specs.Counts.{in_64_bits};
 ghost use Rattle.structure_tables.specs.TypeWays.{one_at};
 ghost use Rattle.structure_tables.specs.CountedWays.{AreWaysTo, CountWays, ways_to, is_one, choices_of, choice_at, count_at, choices_at, counts_at, ways_by};
 
-use crate::tuples::{TupleFunction, next_tuple, repeated};
-use enc_base::{List, NoMemory};
+use crate::tuples::{TupleFunction, repeated};
+use enc_base::{List, NoMemory, next_tuple};
 use std::alloc::Global;
 
 /// How many tuples of members give each member that a type can be.

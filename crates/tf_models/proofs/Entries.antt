@@ -3,6 +3,10 @@ use Rattle.std.specs.Prelude.{ℕ, ◌≡◌, ◌<◌, ◌≤◌, ◌+◌, List,
 use Rattle.std.proofs.Common.{sym, ap, subst, ◌∙◌, arith}
 use Rattle.std.proofs.lemmas.Option.{slice_get_within, get_or_from_slice_get}
 use Rattle.enc_base.specs.Tables.{EachBelow, sum_below, tuple_count, place, begins}
+use Rattle.enc_base.specs.Tuples.{tuple_at, IsPlaced}
+use Rattle.enc_base.proofs.Placing.{placed_within}
+use Rattle.enc_base.proofs.NumberedTuples.{length-tuple_at, place-tuple_at, tuple_at_below, tuple_at-place, total-numbered, begins-numbered}
+use Rattle.enc_base.proofs.Tables.{sum_below-grows, sum_below-part}
 use Rattle.tf_core.specs.declared.ty.Ty.{Ty}
 use Rattle.tf_core.specs.declared.term.Term.{Term}
 use Rattle.tf_core.specs.declared.signature.Symbol.{Symbol}
@@ -14,11 +18,8 @@ use Rattle.tf_core.specs.TypedTables.{symbol_entry, reading, block_bounds, block
 use Rattle.tf_models.specs.declared.structure.TypedStructure.{TypedStructure}
 use Rattle.tf_models.specs.Assignment.{Assignment}
 use Rattle.tf_models.specs.Reading.{tables}
-use Rattle.tf_models.specs.TupleNumbers.{tuple_at}
 use Rattle.tf_models.specs.Fit.{bounds_at, ConstructorsFit, parameters_at, length_at, block_count}
-use Rattle.tf_models.specs.Evaluation.{member_in, size_in, value_in, entry_in, IsReady, IsBlock, IsElement, AreTerms, IsApplication, IsApplied, IsPlaced}
-use Rattle.tf_models.proofs.Placing.{placed_within}
-use Rattle.tf_models.proofs.NumberedTuples.{length-tuple_at, place-tuple_at, tuple_at_below, tuple_at-place, total-numbered, begins-numbered, sum_below-grows, sum_below-part}
+use Rattle.tf_models.specs.Evaluation.{member_in, size_in, value_in, entry_in, IsReady, IsBlock, IsElement, AreTerms, IsApplication, IsApplied}
 use Rattle.tf_models.proofs.SymbolBlocks.{block_positive, blocks_fit}
 use Rattle.tf_models.proofs.Values.{symbol_typed, sizes-instantiate, value_below, values_below}
 

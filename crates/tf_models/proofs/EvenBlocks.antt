@@ -6,6 +6,9 @@ use Rattle.std.proofs.lemmas.Nat.{div-add-mod'}
 use Rattle.std.proofs.lemmas.Bool.{false≢true}
 use Rattle.std.proofs.lemmas.Simd.{map-map}
 use Rattle.enc_base.specs.Tables.{sum_below, tuple_count}
+use Rattle.enc_base.specs.Counts.{in_64_bits}
+use Rattle.enc_base.proofs.NumberedTuples.{some_tuples}
+use Rattle.enc_base.proofs.Tables.{sum_below-part}
 use Rattle.tf_core.specs.declared.ty.Ty.{Ty}
 use Rattle.tf_core.specs.declared.signature.Symbol.{Symbol}
 use Rattle.tf_core.specs.declared.signature.Signature.{Signature}
@@ -17,8 +20,7 @@ use Rattle.tf_core.proofs.Occurrences.{type_values-agree}
 use Rattle.tf_models.specs.declared.structure.TypedStructure.{TypedStructure}
 use Rattle.tf_models.specs.Reading.{tables}
 use Rattle.tf_models.specs.Fit.{ConstructorsFit, IsSymbolTable, block_count, length_at, bound_at, parameters_at}
-use Rattle.tf_models.specs.Evaluation.{in_64_bits, IsBlock, IsClosedResult, HasEvenBlocks}
-use Rattle.tf_models.proofs.NumberedTuples.{some_tuples, sum_below-part}
+use Rattle.tf_models.specs.Evaluation.{IsBlock, IsClosedResult, HasEvenBlocks}
 use Rattle.tf_models.proofs.SymbolBlocks.{in_64_bits-times}
 
 sum_below-even : (count : ℕ) (f : ℕ → ℕ) (value : ℕ) → ((n : ℕ) → f n ≡ value) →

@@ -5,13 +5,13 @@ use Rattle.std.proofs.lemmas.Bool.{cases_eq}
 use Rattle.std.proofs.lemmas.List.{get_or_default, get_or-drop, take_all}
 use Rattle.std.proofs.lemmas.Option.{slice_get_within, slice_get-get_or}
 use Rattle.enc_base.specs.Tables.{sum_below}
+use Rattle.enc_base.proofs.Tables.{sum_below-part}
 use Rattle.tf_core.specs.declared.signature.Symbol.{Symbol}
 use Rattle.tf_core.specs.declared.signature.Signature.{Signature}
 use Rattle.tf_models.specs.declared.structure.TypedStructure.{TypedStructure}
 use Rattle.tf_models.specs.Reading.{tables}
 use Rattle.tf_models.specs.Fit.{IsSymbolTable, block_count, length_at, bound_at, parameters_at}
 use Rattle.tf_models.specs.Evaluation.{IsBlock, IsBlockOf}
-use Rattle.tf_models.proofs.NumberedTuples.{sum_below-part}
 use Rattle.tf_models.proofs.SymbolBlocks.{block_positive, blocks_fit}
 
 -- the list at an index of a list of lists, as code reads it

@@ -1,6 +1,4 @@
 pub mod Inversion
-pub mod Placing
-pub mod NumberedTuples
 pub mod TypeMembers
 pub mod SymbolBlocks
 pub mod Values

@@ -12,8 +12,8 @@ use Rattle.tf_core.specs.declared.term.Term.TheVariants as term
 use Rattle.tf_core.specs.declared.formula.Formula.{Formula}
 use Rattle.tf_core.specs.declared.formula.Formula.TheVariants as formula
 use Rattle.tf_core.specs.Occurrences.{occurs_in_type, occurs_in_types, occurs_in_term, occurs_in_terms, occurs_in}
-use Rattle.tf_models.specs.TupleNumbers.{IsUsed}
 use Rattle.tf_core.proofs.Occurrences.{occurs_in_type-variable, occurs_in_type-apply, occurs_in_term-variable, occurs_in_term-apply, occurs_in-true, occurs_in-false, occurs_in-atom, occurs_in-equal, occurs_in-not, occurs_in-and, occurs_in-or, occurs_in-implies, occurs_in-if, occurs_in-iff, occurs_in-xor, occurs_in-nand, occurs_in-nor, occurs_in-for_all, occurs_in-exists}
+use Rattle.tf_models.specs.Search.{IsUsed}
 
 -- one of two
 

@@ -3,7 +3,9 @@ use Rattle.std.specs.Prelude.{ℕ, ◌≡◌, ◌<◌, ◌+◌, ◌-◌, Bool, f
 use Rattle.std.proofs.Common.{sym, ap, subst, ◌∙◌, arith, ⊎_elim}
 use Rattle.std.proofs.lemmas.Bool.{false≢true, cases_eq}
 use Rattle.enc_base.specs.Tables.{EachBelow, tuple_count, place}
+use Rattle.enc_base.specs.Tuples.{IsNext, IsLast}
 use Rattle.enc_base.proofs.Tables.{place_within, EachBelow-length}
+use Rattle.enc_base.proofs.TupleOrder.{place-same}
 use Rattle.tf_core.specs.declared.problem.Stated.{Stated}
 use Rattle.tf_core.specs.declared.signature.Signature.{Signature}
 use Rattle.tf_core.specs.Typing.{IsFormula}
@@ -15,10 +17,9 @@ use Rattle.tf_core.proofs.Occurrences.{truth-agrees}
 use Rattle.tf_models.specs.declared.structure.TypedStructure.{TypedStructure}
 use Rattle.tf_models.specs.Assignment.{Assignment}
 use Rattle.tf_models.specs.Reading.{tables}
-use Rattle.tf_models.specs.TupleNumbers.{IsNext, IsLast, IsUsed}
-use Rattle.tf_models.specs.Search.{tried}
+use Rattle.tf_models.specs.Search.{tried, IsUsed}
 use Rattle.tf_models.specs.Evaluation.{true_in, IsTrueOrFalse}
-use Rattle.tf_models.proofs.Varying.{varying_first, place-first, varying_below, kept_where, kept_below, kept_agrees, same_place}
+use Rattle.tf_models.proofs.Varying.{varying_first, place-first, varying_below, kept_where, kept_below, kept_agrees}
 
 module _ (g : Signature) (s : TypedStructure) (stated : Stated) where
   -- the bounds of the tuples that are tried
@@ -75,7 +76,7 @@ module _ (g : Signature) (s : TypedStructure) (stated : Stated) where
         ⊎_elim
         (λ same.
         subst (λ ms. IsTrue (truth (reading g (tables s)) ms stated.body []))
-        (same_place bounds members others searched.below below (sym same)) holds)
+        (place-same bounds members others searched.below below (sym same)) holds)
         (λ differs.
         let other : place bounds others ≡ place bounds members → ⊥ = differs in
         searched.before others below (omega (arith, within, other)))

@@ -4,6 +4,9 @@ use Rattle.std.proofs.Common.{refl, sym, ap, subst, ◌∙◌, arith, ⊎_elim}
 use Rattle.std.proofs.lemmas.List.{length-map, take_all, get_or_default}
 use Rattle.std.proofs.lemmas.Bool.{cases_lt}
 use Rattle.enc_base.specs.Tables.{EachBelow, sum_below, tuple_count}
+use Rattle.enc_base.specs.Counts.{in_64_bits}
+use Rattle.enc_base.proofs.Placing.{get_or-mapped, tuple_count-next}
+use Rattle.enc_base.proofs.NumberedTuples.{length-tuple_at, tuple_at_below}
 use Rattle.tf_core.specs.declared.ty.Ty.{Ty}
 use Rattle.tf_core.specs.declared.ty.Ty.TheVariants as type
 use Rattle.tf_core.specs.declared.signature.Symbol.{Symbol}
@@ -14,9 +17,7 @@ use Rattle.tf_models.specs.declared.structure.TypedStructure.{TypedStructure}
 use Rattle.tf_models.specs.declared.members.Members.TheVariants.{Numbered}
 use Rattle.tf_models.specs.Reading.{tables}
 use Rattle.tf_models.specs.Fit.{bounds_at, parameters_at, length_at}
-use Rattle.tf_models.specs.Evaluation.{in_64_bits, listed, member_in, AreMembers, IsBlock}
-use Rattle.tf_models.proofs.Placing.{get_or-mapped, tuple_count-next}
-use Rattle.tf_models.proofs.NumberedTuples.{length-tuple_at, tuple_at_below}
+use Rattle.tf_models.specs.Evaluation.{listed, member_in, AreMembers, IsBlock}
 use Rattle.tf_models.proofs.TypeMembers.{member_below, type_at}
 
 -- the members of a block

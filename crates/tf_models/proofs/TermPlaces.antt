@@ -4,6 +4,8 @@ use Rattle.std.proofs.Common.{sym, ap, subst, ◌∙◌, arith}
 use Rattle.std.proofs.lemmas.List.{length-map, length-reverse, get_or-reverse}
 use Rattle.std.proofs.lemmas.Option.{slice_get_within}
 use Rattle.enc_base.specs.Tables.{EachBelow, tuple_count, place}
+use Rattle.enc_base.specs.Tuples.{IsPlaced}
+use Rattle.enc_base.proofs.Placing.{EachBelow-same_length, place-step, place-fits, place-whole, get_or-mapped}
 use Rattle.tf_core.specs.declared.ty.Ty.{Ty}
 use Rattle.tf_core.specs.declared.term.Term.{Term}
 use Rattle.tf_core.specs.declared.term.Term.TheVariants as term
@@ -16,8 +18,7 @@ use Rattle.tf_models.specs.declared.structure.TypedStructure.{TypedStructure}
 use Rattle.tf_models.specs.Assignment.{Assignment}
 use Rattle.tf_models.specs.Reading.{tables}
 use Rattle.tf_models.specs.Fit.{bounds_at, parameters_at}
-use Rattle.tf_models.specs.Evaluation.{member_in, value_in, entry_in, sizes_in, IsAssignment, IsBlock, IsTerm, AreTerms, IsApplied, IsPlaced}
-use Rattle.tf_models.proofs.Placing.{EachBelow-same_length, place-step, place-fits, place-whole, get_or-mapped}
+use Rattle.tf_models.specs.Evaluation.{member_in, value_in, entry_in, sizes_in, IsAssignment, IsBlock, IsTerm, AreTerms, IsApplied}
 use Rattle.tf_models.proofs.SymbolBlocks.{argument_size}
 use Rattle.tf_models.proofs.Inversion.{term_variable_parts, term_application_parts}
 

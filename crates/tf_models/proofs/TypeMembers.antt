@@ -4,7 +4,9 @@ use Rattle.std.proofs.Common.{sym, ap, subst, ◌∙◌, arith}
 use Rattle.std.proofs.lemmas.List.{get_or-replicate, length-replicate, length-map}
 use Rattle.std.proofs.lemmas.Option.{slice_get_within}
 use Rattle.enc_base.specs.Tables.{EachBelow, tuple_count, place}
+use Rattle.enc_base.specs.Tuples.{IsPlaced}
 use Rattle.enc_base.proofs.Tables.{place_within, EachBelow-length}
+use Rattle.enc_base.proofs.Placing.{placed_within, place-step, place-fits, place-whole, get_or-mapped}
 use Rattle.tf_core.specs.declared.ty.Ty.{Ty}
 use Rattle.tf_core.specs.declared.ty.Ty.TheVariants as type
 use Rattle.tf_core.specs.declared.signature.Constructor.{Constructor}
@@ -16,8 +18,7 @@ pub use Rattle.tf_core.proofs.Values.{type_value_below, type_values_below}
 use Rattle.tf_models.specs.declared.structure.TypedStructure.{TypedStructure}
 use Rattle.tf_models.specs.Reading.{tables}
 use Rattle.tf_models.specs.Fit.{ConstructorsFit}
-use Rattle.tf_models.specs.Evaluation.{member_in, IsPlaced}
-use Rattle.tf_models.proofs.Placing.{placed_within, place-step, place-fits, place-whole, get_or-mapped}
+use Rattle.tf_models.specs.Evaluation.{member_in}
 use Rattle.tf_models.proofs.Inversion.{application_parts}
 
 module _ (g : Signature) (s : TypedStructure) (fit : ConstructorsFit g (tables s)) where

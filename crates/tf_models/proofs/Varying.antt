@@ -1,11 +1,9 @@
 -- Tuples of numbers in which only some parts vary.
 use Rattle.std.specs.Prelude.{ℕ, zero, suc, ◌≡◌, ◌<◌, ◌≤◌, ◌+◌, ◌*◌, ◌^◌, Bool, true, false, cond, List, [], ◌∷◌, length, replicate, drop, get_or}
-use Rattle.std.proofs.Common.{refl, sym, ap, subst, ◌∙◌, arith, ⊎_elim}
-use Rattle.std.proofs.lemmas.Bool.{cases_lt}
+use Rattle.std.proofs.Common.{refl, sym, ap, subst, ◌∙◌, arith}
 use Rattle.enc_base.specs.Tables.{EachBelow, tuple_count, place}
-use Rattle.enc_base.proofs.Tables.{place_within}
 use Rattle.tf_core.specs.Occurrences.{AgreeWhere}
-use Rattle.tf_models.specs.TupleNumbers.{bounds_where}
+use Rattle.tf_models.specs.Search.{bounds_where}
 
 -- bounds
 
@@ -124,44 +122,3 @@ pub kept_agrees : (varies : ℕ → Bool) (values : List ℕ) →
 kept_agrees varies [] i is = refl
 kept_agrees varies (value ∷ values) zero is = sym (ap (λ b. cond b value 0) is)
 kept_agrees varies (value ∷ values) (suc i) is = kept_agrees (λ j. varies (suc j)) values i is
-
--- tuples with one place are one
-
-later : (a b count n m : ℕ) → a < b → n < count → a * count + n < b * count + m
-later a b count n m smaller within = grind arith
-
-pub same_place : (bounds values others : List ℕ) → EachBelow bounds values →
-    EachBelow bounds others → place bounds values ≡ place bounds others → values ≡ others
-same_place [] [] [] below also same = refl
-same_place [] [] (other ∷ others) below also same = absurd also
-same_place [] (value ∷ values) others below also same = absurd below
-same_place (bound ∷ bounds) [] others below also same = absurd below
-same_place (bound ∷ bounds) (value ∷ values) [] below also same = absurd also
-same_place (bound ∷ bounds) (value ∷ values) (other ∷ others) below also same =
-    ap (λ n. n ∷ values) first
-    ∙ ap (λ ns. other ∷ ns) (same_place bounds values others below.1 also.1 (omega (
-      arith,
-      same,
-      ap (λ n. n * tuple_count bounds) first,
-    )))
-  where
-    first : value ≡ other
-    first =
-        ⊎_elim
-        (λ smaller. absurd (omega (
-          arith,
-          same,
-          later value other (tuple_count bounds) (place bounds values) (place bounds others) smaller
-              (place_within bounds values below.1),
-        )))
-        (λ not_smaller.
-        ⊎_elim
-        (λ greater. absurd (omega (
-          arith,
-          same,
-          later other value (tuple_count bounds) (place bounds others) (place bounds values) greater
-              (place_within bounds others also.1),
-        )))
-        (λ not_greater. omega (arith, not_smaller, not_greater))
-        (cases_lt other value))
-        (cases_lt value other)

@@ -5,6 +5,7 @@ use Rattle.std.proofs.Math.Nat.{div-lt_iff_lt-mul, mod-lt}
 use Rattle.std.proofs.lemmas.Nat.{div-add-mod'}
 use Rattle.enc_base.specs.Tables.{EachBelow, sum_below, tuple_count, place}
 use Rattle.enc_base.proofs.Tables.{place_within}
+use Rattle.enc_base.proofs.NumberedTuples.{place-tuple_at, tuple_at_below, tuple_at-place, total-numbered, begins-numbered}
 use Rattle.tf_core.specs.declared.ty.Ty.{Ty}
 use Rattle.tf_core.specs.declared.signature.Symbol.{Symbol}
 use Rattle.tf_core.specs.declared.signature.Signature.{Signature}
@@ -13,7 +14,6 @@ use Rattle.tf_core.specs.TypedTables.{reading, symbol_entry, block_bounds, block
 use Rattle.tf_models.specs.declared.structure.TypedStructure.{TypedStructure}
 use Rattle.tf_models.specs.Reading.{tables}
 use Rattle.tf_models.specs.Fit.{TablesFit, parameters_at, length_at, bound_at, block_count}
-use Rattle.tf_models.proofs.NumberedTuples.{place-tuple_at, tuple_at_below, tuple_at-place, total-numbered, begins-numbered}
 use Rattle.tf_models.proofs.TypeMembers.{constructors_give}
 use Rattle.tf_models.proofs.Entries.{constructors_fit, table_total}
 

@@ -1,8 +1,9 @@
 -- Words of the evaluator's contracts: values and truth under an environment, the last element being
 -- the nearest binder's.
-use Rattle.std.specs.Prelude.{ℕ, ◌≡◌, ◌<◌, ◌≤◌, Bool, List, ◌∷◌, map, length, replicate, reverse, min, ◌^◌, ◌-◌, slice_get, slice_index, Option, Some, None, false}
+use Rattle.std.specs.Prelude.{ℕ, ◌≡◌, ◌<◌, ◌≤◌, Bool, List, ◌∷◌, map, length, replicate, reverse, ◌^◌, slice_get, slice_index, Option, Some, None, false}
 use Rattle.std.specs.List.{list_all, list_any}
-use Rattle.enc_base.specs.Tables.{EachBelow, tuple_count, place}
+use Rattle.enc_base.specs.Tables.{EachBelow, tuple_count}
+use Rattle.enc_base.specs.Tuples.{tuple_at}
 use Rattle.tf_core.specs.declared.ty.Ty.{Ty}
 use Rattle.tf_core.specs.declared.term.Term.{Term}
 use Rattle.tf_core.specs.declared.formula.Formula.{Formula}
@@ -18,12 +19,7 @@ use Rattle.tf_models.specs.declared.members.Members.{Members}
 use Rattle.tf_models.specs.declared.members.Members.TheVariants.{Listed, Numbered}
 use Rattle.tf_models.specs.Assignment.{Assignment}
 use Rattle.tf_models.specs.Reading.{tables}
-use Rattle.tf_models.specs.TupleNumbers.{tuple_at}
 use Rattle.tf_models.specs.Fit.{ConstructorsFit, block_count, length_at, bound_at, parameters_at}
-
--- a count as it is kept in 64 bits
-abbrev pub in_64_bits : ℕ → ℕ
-in_64_bits count = min count (2 ^ 64 - 1)
 
 -- the members for type variables, as a list
 abbrev pub listed : Members → List ℕ
@@ -175,8 +171,3 @@ pub record IsBinder (g : Signature) (s : TypedStructure) (env : Assignment) (ty 
   pub formed : IsType g (length env.members) ty
   pub typed : IsFormula g (length env.members) (ty ∷ context) body
   pub assigned : IsAssignment g s env context
-
--- so many numbers below bounds, and the place of their tuple
-pub record IsPlaced (bounds values : List ℕ) (at : ℕ) : Type 0 where
-  pub place_is : at ≡ place bounds values
-  pub below : EachBelow bounds values

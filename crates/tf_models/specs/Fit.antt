@@ -1,13 +1,13 @@
 -- When tables fit a signature, said of the tables alone.
 use Rattle.std.specs.Prelude.{ℕ, ◌+◌, ◌<◌, ◌≡◌, List, [], length, replicate, get_or, slice_get, slice_index, Option, Some, None}
 use Rattle.enc_base.specs.Tables.{sum_below, tuple_count}
+use Rattle.enc_base.specs.Tuples.{tuple_at}
 use Rattle.tf_core.specs.declared.ty.Ty.{Ty}
 use Rattle.tf_core.specs.declared.signature.Constructor.{Constructor}
 use Rattle.tf_core.specs.declared.signature.Symbol.{Symbol}
 use Rattle.tf_core.specs.declared.signature.Signature.{Signature}
 use Rattle.tf_core.specs.Types.{type_value}
 use Rattle.tf_core.specs.TypedTables.{TypedTables, constructor_entry, block_bounds, block_length}
-use Rattle.tf_models.specs.TupleNumbers.{tuple_at}
 
 -- a table has an entry for each tuple of so many numbers, each below the bound as well
 pub record IsTable (bound arity : ℕ) (entries : List ℕ) : Type 0 where

@@ -1,5 +1,4 @@
 pub mod Assignment
-pub mod TupleNumbers
 pub mod Search
 pub mod Reading
 pub mod Fit

@@ -1,9 +1,21 @@
 -- Which tuples of members are tried where a formula's truth for all of them is asked.
-use Rattle.std.specs.Prelude.{ℕ, List, length}
+use Rattle.std.specs.Prelude.{ℕ, zero, suc, ◌≡◌, ◌<◌, ◌≤◌, ◌-◌, Bool, true, false, cond, List, [], ◌∷◌, length}
 use Rattle.enc_base.specs.Tables.{EachBelow}
+use Rattle.enc_base.specs.Tuples.{IsNext, IsLast}
 use Rattle.tf_core.specs.declared.formula.Formula.{Formula}
 use Rattle.tf_core.specs.Occurrences.{occurs_in}
-use Rattle.tf_models.specs.TupleNumbers.{bounds_where, IsNext, IsLast, IsUsed}
+
+-- the bounds of tuples in which only the parts at some indices vary, and all others are 0
+abbrev pub bounds_where : ℕ → (ℕ → Bool) → ℕ → List ℕ
+bounds_where bound varies zero = []
+bounds_where bound varies (suc count) =
+    cond (varies 0) bound 1 ∷ bounds_where bound (λ i. varies (suc i)) count
+
+-- one more than the greatest number below a count that passes a test, or 0
+pub record IsUsed (test : ℕ → Bool) (count used : ℕ) : Type 0 where
+  pub within : used ≤ count
+  pub last : 0 < used → test (used - 1) ≡ true
+  pub none : (i : ℕ) → used ≤ i → i < count → test i ≡ false
 
 -- the bounds of the tuples that are tried: a variable that doesn't occur has the first member
 abbrev pub tried : ℕ → Formula → ℕ → List ℕ

@@ -1,8 +1,9 @@
 ghost use Rattle.std.specs.Prelude.{◌≡◌, ◌<◌, ◌≤◌, [], length, get_or};
 ghost use Rattle.enc_base.specs.Tables.{sum_below};
+ghost use Rattle.enc_base.specs.Counts.{in_64_bits};
 ghost use Rattle.tf_models.specs.Reading.{tables};
 ghost use Rattle.tf_models.specs.Fit.{ConstructorsFit, block_count, length_at};
-ghost use Rattle.tf_models.specs.Evaluation.{in_64_bits, IsBlock};
+ghost use Rattle.tf_models.specs.Evaluation.{IsBlock};
 ghost use Rattle.tf_core.specs.Typing.{IsSymbol};
 
 use crate::members::Members;

@@ -1,7 +1,7 @@
 ghost use Rattle.std.specs.Prelude.{◌≡◌, ◌<◌, ◌≤◌, ◌+◌, ◌-◌, [], ◌∷◌, ◌++◌, length, take, slice_index, vec_len, replicate, true, false, IfOk};
 ghost use Rattle.enc_base.specs.Tables.{EachBelow};
+ghost use Rattle.enc_base.specs.Tuples.{IsNext, IsLast};
 ghost use Rattle.tf_core.specs.Occurrences.{occurs_in};
-ghost use Rattle.tf_models.specs.TupleNumbers.{IsNext, IsLast};
 ghost use Rattle.tf_models.specs.Search.{tried, AreTried, AreTriedNext, AreTriedLast, AreUsed};
 ghost use Rattle.tf_models.specs.Assignment.{Assignment};
 

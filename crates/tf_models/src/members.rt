@@ -1,7 +1,7 @@
 ghost use Rattle.std.specs.Prelude.{◌≡◌, ◌<◌, length, get_or, replicate};
 ghost use Rattle.enc_base.specs.Tables.{tuple_count};
+ghost use Rattle.enc_base.specs.Tuples.{tuple_at};
 ghost use Rattle.tf_models.specs.Evaluation.{listed, IsNumber};
-ghost use Rattle.tf_models.specs.TupleNumbers.{tuple_at};
 
 /// Members for type variables: a list of them, or the number of their tuple among those of `count`
 /// numbers below `bound`, in lexicographic order.

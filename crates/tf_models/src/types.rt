@@ -1,9 +1,10 @@
 ghost use Rattle.std.specs.Prelude.{◌≡◌, ◌<◌, ◌≤◌, [], map, length, replicate, get_or};
 ghost use Rattle.enc_base.specs.Tables.{tuple_count};
+ghost use Rattle.enc_base.specs.Tuples.{IsPlaced};
 ghost use Rattle.tf_core.specs.Typing.{IsType, AreTypes};
 ghost use Rattle.tf_models.specs.Reading.{tables};
 ghost use Rattle.tf_models.specs.Fit.{ConstructorsFit};
-ghost use Rattle.tf_models.specs.Evaluation.{listed, member_in, size_in, AreMembers, IsPlaced};
+ghost use Rattle.tf_models.specs.Evaluation.{listed, member_in, size_in, AreMembers};
 
 use crate::members::Members;
 use crate::structure::TypedStructure;

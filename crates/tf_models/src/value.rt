@@ -1,8 +1,9 @@
 ghost use Rattle.std.specs.Prelude.{◌≡◌, ◌≤◌, map, length};
 ghost use Rattle.enc_base.specs.Tables.{EachBelow, tuple_count};
+ghost use Rattle.enc_base.specs.Tuples.{IsPlaced};
 ghost use Rattle.tf_models.specs.Reading.{tables};
 ghost use Rattle.tf_models.specs.Fit.{bounds_at};
-ghost use Rattle.tf_models.specs.Evaluation.{value_in, entry_in, IsReady, IsBlock, IsTerm, AreTerms, IsElement, IsApplied, IsPlaced};
+ghost use Rattle.tf_models.specs.Evaluation.{value_in, entry_in, IsReady, IsBlock, IsTerm, AreTerms, IsElement, IsApplied};
 
 use crate::env::Env;
 use crate::members::Members;

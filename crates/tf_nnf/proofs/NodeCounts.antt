@@ -12,7 +12,8 @@ use Rattle.tf_core.specs.declared.term.Term.{Term}
 use Rattle.tf_core.specs.declared.ty.Ty.{Ty}
 use Rattle.std.proofs.Common.{ℕ, ◌+◌, ◌≡◌, Bool, true, false, List, [], ◌∷◌, map, refl, sym, ap, ◌∙◌, arith}
 use Rattle.std.specs.List.{sum_by}
-use Rattle.tf_nnf.specs.Nodes.{term_nodes, term_nodes_step, nnf_nodes, nnf_nodes_step, in_64_bits, positive_nodes, negative_nodes, IsCounted}
+use Rattle.enc_base.specs.Counts.{in_64_bits}
+use Rattle.tf_nnf.specs.Nodes.{term_nodes, term_nodes_step, nnf_nodes, nnf_nodes_step, positive_nodes, negative_nodes, IsCounted}
 use Rattle.tf_nnf.specs.Forms.{Forms, forms, positive_form, negative_form, both, either}
 use Rattle.tf_nnf.proofs.Forms.{forms-true, forms-false, forms-atom, forms-equal, forms-not, forms-and, forms-or, forms-implies, forms-if, forms-iff, forms-xor, forms-nand, forms-nor, forms-for_all, forms-exists}
 use Rattle.tf_nnf.proofs.Lists.{sum-map, sum_by-map}

@@ -6,3 +6,4 @@ pub mod Laws
 pub mod Extension
 pub mod Search
 pub mod Samples
+pub mod RefusalNumbers

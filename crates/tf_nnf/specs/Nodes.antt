@@ -1,7 +1,8 @@
 -- How many nodes a formula in negation normal form has: those of formulas and those of terms.
 -- A literal is one node besides its terms, and types aren't counted.
-use Rattle.std.specs.Prelude.{◌≡◌, ℕ, ◌+◌, ◌^◌, ◌-◌, List, sum, min}
+use Rattle.std.specs.Prelude.{◌≡◌, ℕ, ◌+◌, List, sum}
 use Rattle.std.specs.List.{sum_by}
+use Rattle.enc_base.specs.Counts.{in_64_bits}
 use Rattle.tf_core.specs.declared.term.Term.{Term}
 use Rattle.tf_core.specs.declared.term.Term.TheOpen.{Term-F}
 use Rattle.tf_core.specs.declared.term.Term.TheOpen as term
@@ -42,10 +43,6 @@ nnf_nodes = fold-Nnf ℕ nnf_nodes_step
 -- how many nodes the formulas of a normal problem have together
 abbrev pub normal_nodes : Normal → ℕ
 normal_nodes normal = sum_by (λ formula. nnf_nodes formula.body) normal.formulas
-
--- a count as it is kept in 64 bits: the greatest number stands for all that are larger
-abbrev pub in_64_bits : ℕ → ℕ
-in_64_bits count = min count (2 ^ 64 - 1)
 
 -- the nodes of a formula's normal form
 abbrev pub positive_nodes : Formula → ℕ

@@ -1,9 +1,10 @@
 -- When a problem has no normal problem.
 use Rattle.std.specs.Prelude.{ℕ, ◌<◌, ◌≤◌, ◌≡◌}
+use Rattle.enc_base.specs.Counts.{in_64_bits}
 use Rattle.tf_core.specs.declared.normal.Normal.{Normal}
 use Rattle.tf_nnf.specs.declared.error.NormalError.{NormalError}
 use Rattle.tf_nnf.specs.declared.error.NormalError.TheVariants.{TooLarge, Memory}
-use Rattle.tf_nnf.specs.Nodes.{normal_nodes, in_64_bits}
+use Rattle.tf_nnf.specs.Nodes.{normal_nodes}
 
 -- the most nodes that a normal problem may have
 abbrev pub most_nodes : ℕ

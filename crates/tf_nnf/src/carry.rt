@@ -10,8 +10,7 @@ ghost use Rattle.tf_nnf.specs.Laws.{GivesModel};
 ghost use Rattle.tf_nnf.specs.Search.{IsRefuted, HasRoom};
 
 use crate::normal::conjecture;
-use crate::tuple::advance;
-use enc_base::{List, NoMemory};
+use enc_base::{List, NoMemory, next_tuple_below};
 use std::alloc::Global;
 use tf_core::{Normal, Problem, Stated};
 use tf_models::{Env, TypedStructure};
@@ -82,7 +81,7 @@ fn first_false(
     };
     let bound = structure.sizes.as_slice().len() as u32;
     while is_true(problem, stated, structure, &members, &mut env) {
-        advance(&mut members, bound);
+        next_tuple_below(&mut members, bound);
     }
     Ok(members)
 }

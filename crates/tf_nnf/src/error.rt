@@ -1,3 +1,6 @@
+ghost use Rattle.std.specs.Prelude.{◌≡◌};
+ghost use Rattle.tf_nnf.specs.RefusalNumbers.{number_of};
+
 use enc_base::NoMemory;
 use thiserror::Error;
 
@@ -9,6 +12,18 @@ pub enum NormalError {
     TooLarge { nodes: u64 },
     #[error("no memory")]
     Memory,
+}
+
+impl NormalError {
+    /// The number under which the refusal is noted. Want of memory has none.
+    pub fn number(&self) -> Option<u8>
+        ensures { result ≡ number_of self.now }
+    {
+        match self {
+            NormalError::TooLarge { .. } => Some(22),
+            NormalError::Memory => None,
+        }
+    }
 }
 
 impl From<NoMemory> for NormalError {

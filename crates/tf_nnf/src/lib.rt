@@ -8,7 +8,6 @@ mod instance;
 mod laws;
 mod nodes;
 mod normal;
-mod tuple;
 
 pub use carry::{from_normal, to_normal};
 pub use error::NormalError;

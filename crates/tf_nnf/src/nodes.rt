@@ -1,6 +1,7 @@
 ghost use Rattle.std.specs.Prelude.{◌≡◌, ◌+◌};
 ghost use Rattle.std.specs.List.{sum_by};
-ghost use Rattle.tf_nnf.specs.Nodes.{term_nodes, in_64_bits, IsCounted, AreCounted};
+ghost use Rattle.enc_base.specs.Counts.{in_64_bits};
+ghost use Rattle.tf_nnf.specs.Nodes.{term_nodes, IsCounted, AreCounted};
 
 use tf_core::{Formula, Term};
 

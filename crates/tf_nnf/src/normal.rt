@@ -1,7 +1,8 @@
 ghost use Rattle.std.specs.Prelude.{◌≡◌, ◌+◌, ◌≤◌, ◌^◌, ◌<◌, true, length, map, Some, None, IfOk, IfErr, MatchOption};
 ghost use Rattle.std.specs.List.{sum_by};
+ghost use Rattle.enc_base.specs.Counts.{in_64_bits};
 ghost use Rattle.tf_core.specs.Sound.{IsSound, IsSoundNormal};
-ghost use Rattle.tf_nnf.specs.Nodes.{stated_nodes, normal_nodes, in_64_bits};
+ghost use Rattle.tf_nnf.specs.Nodes.{stated_nodes, normal_nodes};
 ghost use Rattle.tf_nnf.specs.NormalForm as specs;
 ghost use Rattle.tf_nnf.specs.NormalForm.{conjecture_of, variables_of, fresh_types, normal_of};
 ghost use Rattle.tf_nnf.specs.Refusal.{most_nodes, IsRefused};

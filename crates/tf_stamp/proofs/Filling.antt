@@ -5,8 +5,8 @@ use Rattle.std.proofs.Common.{refl, sym, ap, ◌∙◌, subst, arith, ⊎_elim}
 use Rattle.std.proofs.lemmas.Bool.{cases_lt}
 use Rattle.std.proofs.lemmas.List.{length-append, length-replicate, get_or_append_left, get_or-append_right, get_or-replicate}
 use Rattle.std.proofs.lemmas.List.FromFn.{length-range_with_len, get_or-range_with_len}
+use Rattle.enc_base.specs.Counts.{most_entries}
 use Rattle.tf_stamp.specs.Merged.{pairs_before, pair_count, merged_size, stamp, member_in}
-use Rattle.tf_stamp.specs.Most.{most_entries}
 use Rattle.tf_stamp.specs.Kept.{sizes_between, IsKept}
 use Rattle.tf_stamp.proofs.Merged.{member_in-stamp, member_in-member}
 

@@ -1,7 +1,7 @@
 -- How a merged domain is kept: where the stamps of each member begin, and each number's member.
 use Rattle.std.specs.Prelude.{ℕ, ◌-◌, ◌<◌, ◌≤◌, ◌≡◌, List, [], ◌∷◌, length, get_or, slice_index}
+use Rattle.enc_base.specs.Counts.{most_entries}
 use Rattle.tf_stamp.specs.Merged.{merged_size, stamp, member_in}
-use Rattle.tf_stamp.specs.Most.{most_entries}
 
 -- the sizes of parts that begin at these places, the last up to an end
 abbrev pub sizes_between : List ℕ → ℕ → List ℕ

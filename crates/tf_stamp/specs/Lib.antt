@@ -1,4 +1,3 @@
 pub mod Merged
-pub mod Most
 pub mod Kept
 pub mod Refusal

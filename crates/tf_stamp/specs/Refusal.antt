@@ -1,9 +1,9 @@
 -- When a structure has no merged domain.
 use Rattle.std.specs.Prelude.{ℕ, ◌<◌, ◌≤◌, ◌≡◌, List}
+use Rattle.enc_base.specs.Counts.{most_entries}
 use Rattle.tf_stamp.specs.declared.error.StampError.{StampError}
 use Rattle.tf_stamp.specs.declared.error.StampError.TheVariants.{TooLarge, Memory}
 use Rattle.tf_stamp.specs.Merged.{merged_size}
-use Rattle.tf_stamp.specs.Most.{most_entries}
 
 -- The merged domain of members of these sizes has too many numbers, and the refusal carries how
 -- many. Or it hasn't, and there was no memory.

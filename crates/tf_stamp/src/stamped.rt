@@ -1,7 +1,7 @@
 ghost use Rattle.std.specs.Prelude.{◌≡◌, ◌<◌, ◌≤◌, ◌^◌, ◌++◌, [], ◌∷◌, length, replicate, slice_index, IfOk, IfErr, OnOk};
 ghost use Rattle.std.specs.List.{range_with_len};
+ghost use Rattle.enc_base.specs.Counts.{most_entries};
 ghost use Rattle.tf_stamp.specs.Merged.{merged_size, stamp, member_in, element_in};
-ghost use Rattle.tf_stamp.specs.Most.{most_entries};
 ghost use Rattle.tf_stamp.specs.Refusal.{IsRefused};
 
 use crate::error::StampError;

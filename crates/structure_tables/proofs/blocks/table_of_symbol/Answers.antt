@@ -1,9 +1,10 @@
 use Rattle.std.proofs.Common.{length, sym, ap, subst, ◌∙◌, arith, ◌≡◌, ◌<◌, ◌-◌, ◌++◌, replicate}
 use Rattle.enc_base.specs.Tables.{EachBelow, tuple_count, place}
+use Rattle.enc_base.specs.Tuples.{IsNext, IsLast}
+use Rattle.enc_base.proofs.TupleOrder.{fewer_left}
+use Rattle.enc_base.proofs.Lends.{refill-written}
 use Rattle.tf_core.specs.Structures.{member_count}
 use Rattle.structure_tables.specs.TypedTabled.{symbol_block}
-use Rattle.structure_tables.specs.TupleOrder.{IsNext, IsLast}
-use Rattle.structure_tables.proofs.Tabling.{fewer_left, take_written}
 use Rattle.structure_tables.proofs.BlockOrder.{first_below, bounds_of_members, blocks_before, blocks_first, block_last, block_next}
 use Rattle.structure_tables.proofs.blocks.table_of_symbol.Goals as goal
 
@@ -75,7 +76,7 @@ loop-entries-smaller g c =
     - place (replicate count (member_count s)) vs
     < tuple_count (replicate count (member_count s))
     - place (replicate count (member_count s)) c.loop-entries.members.items)
-    (sym (take_written c.loop-entries.members.len c.next_tuple.new.values
+    (sym (refill-written c.loop-entries.members.len c.next_tuple.new.values
     c.loop-entries.members.items long))
     (fewer_left (replicate count (member_count s)) c.loop-entries.members.items
     c.next_tuple.new.values next)
@@ -94,7 +95,7 @@ loop-entries-preserved g c =
     c.deref_mut.ensures.value (c.next_tuple.ensures.next c.if-not-next_tuple.false)) in
     let long : length c.next_tuple.new.values ≡ c.loop-entries.members.len =
     omega (arith, c.next_tuple.auto.values, c.deref_mut.ensures.len) in
-    let same = sym (take_written c.loop-entries.members.len c.next_tuple.new.values
+    let same = sym (refill-written c.loop-entries.members.len c.next_tuple.new.values
     c.loop-entries.members.items long) in
     record {
       below = subst (EachBelow (replicate count (member_count s))) same next.below;

@@ -1,6 +1,6 @@
 use Rattle.std.proofs.Common.{◌≡◌, replicate}
 use Rattle.enc_base.specs.Tables.{tuple_count}
-use Rattle.tf_models.specs.Evaluation.{in_64_bits}
+use Rattle.enc_base.specs.Counts.{in_64_bits}
 use Rattle.structure_tables.proofs.counts.count_tuples.Given as goal
 
 abbrev pub invariant-loop : goal.invariant-loop

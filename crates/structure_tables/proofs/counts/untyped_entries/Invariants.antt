@@ -1,5 +1,5 @@
 use Rattle.std.proofs.Common.{◌≡◌, take}
-use Rattle.tf_models.specs.Evaluation.{in_64_bits}
+use Rattle.enc_base.specs.Counts.{in_64_bits}
 use Rattle.structure_tables.specs.EntryCounts.{untyped_count}
 use Rattle.structure_tables.proofs.counts.untyped_entries.Given as goal
 

@@ -1,6 +1,6 @@
 use Rattle.std.proofs.Common.{length, subst, ◌∙◌, ap, ◌≡◌}
 use Rattle.enc_base.specs.Tables.{tuple_count}
-use Rattle.tf_models.specs.Evaluation.{in_64_bits}
+use Rattle.enc_base.specs.Counts.{in_64_bits}
 use Rattle.structure_tables.specs.ParameterSets.{bounds_of}
 use Rattle.structure_tables.specs.ParameterGroups.{is_unused}
 use Rattle.structure_tables.proofs.TypeVariables.{variables_of_types_below}

@@ -1,10 +1,10 @@
 use Rattle.std.proofs.Common.{subst, ap, length, ◌∙◌}
+use Rattle.enc_base.specs.Counts.{in_64_bits}
 use Rattle.enc_base.proofs.Tables.{EachBelow-length}
 use Rattle.tf_core.specs.Typing.{IsType}
 use Rattle.tf_core.specs.Structures.{member_count}
 use Rattle.tf_models.proofs.TypeMembers.{type_at}
 use Rattle.structure_tables.proofs.MembersOfTypes.{EachBelow-counted}
-use Rattle.tf_models.specs.Evaluation.{in_64_bits}
 use Rattle.structure_tables.specs.TypeWays.{sizes_of_type}
 use Rattle.structure_tables.specs.ParameterGroups.{is_kept}
 use Rattle.structure_tables.proofs.GroupWeights.{size_counted, size_passed}

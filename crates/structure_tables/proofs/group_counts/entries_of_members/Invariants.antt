@@ -1,6 +1,6 @@
 use Rattle.std.proofs.Common.{◌≡◌, take}
 use Rattle.enc_base.specs.Tables.{tuple_count}
-use Rattle.tf_models.specs.Evaluation.{in_64_bits}
+use Rattle.enc_base.specs.Counts.{in_64_bits}
 use Rattle.structure_tables.specs.ParameterGroups.{sizes_inside, is_kept}
 use Rattle.structure_tables.proofs.CountedGroups.{only}
 use Rattle.structure_tables.proofs.group_counts.entries_of_members.Given as goal

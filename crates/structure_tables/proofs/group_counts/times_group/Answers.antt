@@ -1,11 +1,12 @@
 use Rattle.std.proofs.Common.{ℕ, Bool, List, length, sym, ap, subst, ◌∙◌, arith, ◌≡◌, ◌<◌, ◌-◌, ◌*◌, replicate}
 use Rattle.enc_base.specs.Tables.{EachBelow, tuple_count, place, begins}
+use Rattle.enc_base.specs.Counts.{in_64_bits}
+use Rattle.enc_base.specs.Tuples.{IsNext, IsLast}
+use Rattle.enc_base.proofs.TupleOrder.{fewer_left}
+use Rattle.enc_base.proofs.Lends.{refill-written}
 use Rattle.tf_core.specs.Structures.{member_count}
-use Rattle.tf_models.specs.Evaluation.{in_64_bits}
 use Rattle.structure_tables.specs.ParameterSets.{bounds_of}
 use Rattle.structure_tables.specs.ParameterGroups.{kept_inside, is_kept, sizes_inside}
-use Rattle.structure_tables.specs.TupleOrder.{IsNext, IsLast}
-use Rattle.structure_tables.proofs.Tabling.{fewer_left, take_written}
 use Rattle.structure_tables.proofs.CountedBlocks.{count_first, counted_next, product_last, product_full}
 use Rattle.structure_tables.proofs.CountedGroups.{only}
 use Rattle.structure_tables.proofs.GroupWeights.{bounds_are, first_chosen, EachBelow-chosen}
@@ -116,7 +117,7 @@ loop-members-smaller g c =
     subst
     (λ vs. tuple_count bounds - place bounds vs
     < tuple_count bounds - place bounds c.loop-members.members.items)
-    (sym (take_written c.loop-members.members.len c.next_tuple.new.values
+    (sym (refill-written c.loop-members.members.len c.next_tuple.new.values
     c.loop-members.members.items long))
     (fewer_left bounds c.loop-members.members.items c.next_tuple.new.values next)
 
@@ -138,7 +139,7 @@ loop-members-preserved g c =
     c.deref_mut.ensures.value (c.next_tuple.ensures.next c.if-not-next_tuple.false)) in
     let long : length c.next_tuple.new.values ≡ c.loop-members.members.len =
     omega (arith, c.next_tuple.auto.values, c.deref_mut.ensures.len) in
-    let same = sym (take_written c.loop-members.members.len c.next_tuple.new.values
+    let same = sym (refill-written c.loop-members.members.len c.next_tuple.new.values
     c.loop-members.members.items long) in
     record {
       below = subst (EachBelow bounds) same next.below;

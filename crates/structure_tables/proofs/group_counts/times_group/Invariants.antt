@@ -1,7 +1,7 @@
 use Rattle.std.proofs.Common.{◌≡◌, ◌-◌}
 use Rattle.enc_base.specs.Tables.{EachBelow, tuple_count, place, begins}
+use Rattle.enc_base.specs.Counts.{in_64_bits}
 use Rattle.tf_core.specs.Structures.{member_count}
-use Rattle.tf_models.specs.Evaluation.{in_64_bits}
 use Rattle.structure_tables.specs.ParameterSets.{bounds_of}
 use Rattle.structure_tables.specs.ParameterGroups.{sizes_inside, is_kept, kept_inside}
 use Rattle.structure_tables.proofs.CountedGroups.{only}

@@ -1,9 +1,9 @@
 use Rattle.std.proofs.Common.{length, refl, sym, subst, ◌∙◌, arith, ◌≡◌, ◌<◌, ◌+◌, map, take}
 use Rattle.std.specs.List.{All}
 use Rattle.std.proofs.lemmas.List.{take_all}
+use Rattle.enc_base.proofs.Lends.{refill-written}
 use Rattle.structure_tables.specs.ParameterGroups.{variables, group_of_type, AreTogether, AreJoined, AreGroups}
 use Rattle.structure_tables.proofs.Grouping.{types_together_more}
-use Rattle.structure_tables.proofs.Tabling.{take_written}
 use Rattle.structure_tables.proofs.groups.groups_of_parameters.Goals as goal
 
 pub loop-ty-preserved : goal.loop-ty-preserved
@@ -19,7 +19,7 @@ loop-ty-preserved c =
     c.join.ensures) in
     let long : length after ≡ c.loop-ty.groups.len =
     omega (arith, c.join.auto.groups, c.deref_mut.ensures.len) in
-    let same = sym (take_written c.loop-ty.groups.len after groups long) in
+    let same = sym (refill-written c.loop-ty.groups.len after groups long) in
     record {
       long = subst (λ gs. length gs ≡ c.args.symbol.now.parameters) same
           (joined.long ∙ c.loop-ty.invariant.long);

@@ -1,8 +1,8 @@
 use Rattle.std.proofs.Common.{length, sym, subst, ◌∙◌, arith, ◌≡◌, ◌≤◌, ◌<◌, ◌+◌, ℕ, slice_index, take}
 use Rattle.std.proofs.lemmas.List.{take_all}
+use Rattle.enc_base.proofs.Lends.{refill-written}
 use Rattle.structure_tables.specs.ParameterGroups.{variables, AreUses}
 use Rattle.structure_tables.proofs.ParameterUses.{AreSoFar, AreUsesSoFar, no_types_used, uses_few, type_more}
-use Rattle.structure_tables.proofs.Tabling.{take_written}
 use Rattle.structure_tables.proofs.groups.uses_of_parameters.Goals as goal
 
 pub loop-ty-init : goal.loop-ty-init
@@ -31,7 +31,7 @@ loop-ty-preserved c =
     let kept : length after ≡ length uses =
     subst (λ us. length after ≡ length us) c.deref_mut.ensures.value c.add_uses.auto.uses in
     subst (AreUsesSoFar c.args.symbol.now.parameters (take (c.loop-ty.ty-index + 1) types))
-    (sym (take_written c.loop-ty.uses.len after uses long))
+    (sym (refill-written c.loop-ty.uses.len after uses long))
     (type_more c.args.symbol.now.parameters types uses after c.loop-ty.ty-index ty
     (rw c.as_slice-ty-items.ensures at c.loop-ty-test.true)
     (rw c.as_slice-ty-items.ensures at c.ty-item.is) c.loop-ty.invariant kept added)

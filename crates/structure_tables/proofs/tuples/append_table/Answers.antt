@@ -1,7 +1,9 @@
 use Rattle.std.proofs.Common.{length, sym, ap, subst, ◌∙◌, arith, ◌≡◌, ◌<◌, ◌-◌, ◌++◌, take}
 use Rattle.enc_base.specs.Tables.{EachBelow, tuple_count, place, table}
-use Rattle.structure_tables.specs.TupleOrder.{IsNext, IsLast}
-use Rattle.structure_tables.proofs.Tabling.{entry_first, entry_last, entry_next, fewer_left, take_written}
+use Rattle.enc_base.specs.Tuples.{IsNext, IsLast}
+use Rattle.enc_base.proofs.TupleOrder.{fewer_left}
+use Rattle.enc_base.proofs.Lends.{refill-written}
+use Rattle.structure_tables.proofs.Tabling.{entry_first, entry_last, entry_next}
 use Rattle.structure_tables.proofs.tuples.append_table.Goals as goal
 
 pub loop-values-init : goal.loop-values-init
@@ -32,7 +34,7 @@ loop-values-smaller g c =
     subst
     (λ vs. tuple_count c.args.bounds.now - place c.args.bounds.now vs
     < tuple_count c.args.bounds.now - place c.args.bounds.now c.loop-values.values.items)
-    (sym (take_written c.loop-values.values.len c.next_tuple.new.values c.loop-values.values.items long))
+    (sym (refill-written c.loop-values.values.len c.next_tuple.new.values c.loop-values.values.items long))
     (fewer_left c.args.bounds.now c.loop-values.values.items c.next_tuple.new.values next)
 
 pub loop-values-preserved : goal.loop-values-preserved
@@ -42,7 +44,7 @@ loop-values-preserved g c =
     (c.next_tuple.ensures.next c.if-not-next_tuple.false) in
     let long : length c.next_tuple.new.values ≡ c.loop-values.values.len =
     omega (arith, c.next_tuple.auto.values, c.deref_mut.ensures.len) in
-    let same = sym (take_written c.loop-values.values.len c.next_tuple.new.values c.loop-values.values.items long) in
+    let same = sym (refill-written c.loop-values.values.len c.next_tuple.new.values c.loop-values.values.items long) in
     record {
       below = subst (EachBelow c.args.bounds.now) same next.below;
       so_far =

@@ -1,6 +1,6 @@
 use Rattle.std.proofs.Common.{◌≡◌, ◌+◌, take}
 use Rattle.std.specs.Prelude.{sum_by}
-use Rattle.tf_models.specs.Evaluation.{in_64_bits}
+use Rattle.enc_base.specs.Counts.{in_64_bits}
 use Rattle.structure_tables.specs.EntryCounts.{symbol_count}
 use Rattle.structure_tables.proofs.typed_counts.add_symbols.Given as goal
 

@@ -1,8 +1,8 @@
 use Rattle.std.proofs.Common.{◌≡◌, ◌∙◌, ◌*◌, length, sym, ap, subst, replicate, slice_index}
 use Rattle.std.specs.List.{All}
 use Rattle.enc_base.specs.Tables.{EachBelow, tuple_count}
+use Rattle.enc_base.specs.Counts.{in_64_bits}
 use Rattle.tf_core.specs.Structures.{member_count, argument_sizes}
-use Rattle.tf_models.specs.Evaluation.{in_64_bits}
 use Rattle.structure_tables.proofs.BlockOrder.{first_below}
 use Rattle.structure_tables.proofs.Counting.{in_64_bits-factors}
 use Rattle.structure_tables.proofs.SymbolCounts.{symbol_count-same}

@@ -1,8 +1,8 @@
 use Rattle.std.proofs.Common.{◌≡◌, ◌≤◌, ◌∙◌, length, sym, ap, subst, arith, replicate}
 use Rattle.std.specs.Prelude.{IfOk}
 use Rattle.enc_base.specs.Tables.{EachBelow, tuple_count}
+use Rattle.enc_base.specs.Counts.{in_64_bits}
 use Rattle.tf_core.specs.Structures.{member_count, argument_sizes}
-use Rattle.tf_models.specs.Evaluation.{in_64_bits}
 use Rattle.structure_tables.specs.EntryCounts.{symbol_count}
 use Rattle.structure_tables.proofs.BlockOrder.{first_below}
 use Rattle.structure_tables.proofs.ProductSums.{total-single}

@@ -1,6 +1,6 @@
 use Rattle.std.proofs.Common.{◌≡◌, ◌*◌, slice_index}
 use Rattle.enc_base.specs.Tables.{sum_below}
-use Rattle.tf_models.specs.Evaluation.{in_64_bits}
+use Rattle.enc_base.specs.Counts.{in_64_bits}
 use Rattle.structure_tables.proofs.ways.add_products.Given as goal
 
 abbrev pub invariant-loop-i : goal.invariant-loop-i

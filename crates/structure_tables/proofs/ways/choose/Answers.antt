@@ -1,6 +1,6 @@
 use Rattle.std.proofs.Common.{◌≡◌, ◌+◌, ◌*◌, sym, ap, ◌∙◌, arith, ◌++◌, ◌∷◌, [], take, slice_index}
 use Rattle.std.specs.Prelude.{suc}
-use Rattle.tf_models.specs.Evaluation.{in_64_bits}
+use Rattle.enc_base.specs.Counts.{in_64_bits}
 use Rattle.structure_tables.specs.CountedWays.{count_at, choices_at, counts_at}
 use Rattle.structure_tables.proofs.CountedWays.{choice_within, choices_at-more, counts_at-more, counted_choice}
 use Rattle.structure_tables.proofs.ways.choose.Goals as goal

@@ -1,11 +1,12 @@
 use Rattle.std.proofs.Common.{ℕ, List, length, map, replicate, sym, ap, subst, ◌∙◌, arith, ◌≡◌, ◌<◌, ◌-◌, ◌*◌, ◌+◌, slice_index}
 use Rattle.std.proofs.lemmas.List.{length-replicate}
 use Rattle.enc_base.specs.Tables.{EachBelow, tuple_count, place, begins}
-use Rattle.tf_models.specs.Evaluation.{in_64_bits}
+use Rattle.enc_base.specs.Counts.{in_64_bits}
+use Rattle.enc_base.specs.Tuples.{IsNext, IsLast}
+use Rattle.enc_base.proofs.TupleOrder.{fewer_left}
+use Rattle.enc_base.proofs.Lends.{refill-written}
 use Rattle.structure_tables.specs.TypeWays.{one_at}
 use Rattle.structure_tables.specs.CountedWays.{choices_of, choices_at, counts_at}
-use Rattle.structure_tables.specs.TupleOrder.{IsNext, IsLast}
-use Rattle.structure_tables.proofs.Tabling.{fewer_left, take_written}
 use Rattle.structure_tables.proofs.CountedWays.{first_choices, choices_below, nothing_counted, all_counted, next_counted}
 use Rattle.structure_tables.proofs.ways.count_ways.Goals as goal
 
@@ -66,7 +67,7 @@ returns-then-not-next_tuple-clause-counted g c =
     omega (arith, c.add_ways.auto.counts, c.deref_mut.ensures.len) in
     λ member.
     ap (λ cs. slice_index cs member)
-    (take_written c.loop-chosen.counts.len c.add_ways.new.counts c.loop-chosen.counts.items long)
+    (refill-written c.loop-chosen.counts.len c.add_ways.new.counts c.loop-chosen.counts.items long)
     ∙ all_counted members parts c.loop-chosen.counts.items c.loop-chosen.numbers.items f
     c.loop-chosen.invariant.below c.in_ok-more.more c.at-member.result c.add_ways.new.counts
     c.loop-chosen.invariant.so_far
@@ -92,7 +93,7 @@ loop-chosen-smaller g c =
     subst
     (λ vs. tuple_count bounds - place bounds vs
     < tuple_count bounds - place bounds c.loop-chosen.numbers.items)
-    (sym (take_written c.loop-chosen.numbers.len c.next_tuple.new.values
+    (sym (refill-written c.loop-chosen.numbers.len c.next_tuple.new.values
     c.loop-chosen.numbers.items long))
     (fewer_left bounds c.loop-chosen.numbers.items c.next_tuple.new.values next)
 
@@ -111,11 +112,11 @@ loop-chosen-preserved g c =
     c.deref_mut-in-loop-chosen.ensures.value (c.next_tuple.ensures.next c.if-not-next_tuple.false)) in
     let numbers_long : length c.next_tuple.new.values ≡ c.loop-chosen.numbers.len =
     omega (arith, c.next_tuple.auto.values, c.deref_mut-in-loop-chosen.ensures.len) in
-    let numbers_are = sym (take_written c.loop-chosen.numbers.len c.next_tuple.new.values
+    let numbers_are = sym (refill-written c.loop-chosen.numbers.len c.next_tuple.new.values
     c.loop-chosen.numbers.items numbers_long) in
     let counts_long : length c.add_ways.new.counts ≡ c.loop-chosen.counts.len =
     omega (arith, c.add_ways.auto.counts, c.deref_mut.ensures.len) in
-    let counts_are = take_written c.loop-chosen.counts.len c.add_ways.new.counts
+    let counts_are = refill-written c.loop-chosen.counts.len c.add_ways.new.counts
     c.loop-chosen.counts.items counts_long in
     record {
       below = subst (EachBelow bounds) numbers_are next.below;

@@ -1,6 +1,6 @@
 use Rattle.std.proofs.Common.{◌≡◌, ◌*◌, ◌-◌, ℕ, length, map, slice_index}
 use Rattle.enc_base.specs.Tables.{EachBelow, tuple_count, place, begins}
-use Rattle.tf_models.specs.Evaluation.{in_64_bits}
+use Rattle.enc_base.specs.Counts.{in_64_bits}
 use Rattle.structure_tables.specs.TypeWays.{one_at}
 use Rattle.structure_tables.specs.CountedWays.{choices_of, choices_at, counts_at}
 use Rattle.structure_tables.proofs.ways.count_ways.Given as goal

@@ -1,8 +1,9 @@
 use Rattle.std.proofs.Common.{ℕ, ◌≡◌, ◌≤◌, ◌+◌, ◌-◌, ◌∙◌, get_or, take, refl, sym, subst, arith}
 use Rattle.std.proofs.lemmas.List.{length-set}
+use Rattle.enc_base.proofs.TupleOrder.{IsStepping, stepping_none, stepping_last}
 use Rattle.tf_core.specs.Occurrences.{occurs_in}
 use Rattle.tf_models.specs.Search.{tried}
-use Rattle.tf_models.proofs.NextTuple.{IsStepping, stepping_none, part_below, stepping_ends, stepping_more, stepping_last, same_read}
+use Rattle.tf_models.proofs.NextTuple.{part_below, stepping_ends, stepping_more, same_read}
 use Rattle.tf_models.proofs.Varying.{length-bounds_where, tuple_count-used, varying_higher, fixed_full, varying_full, varying_small}
 use Rattle.tf_models.proofs.env.next_tuple.Goals as goal
 use Rattle.tf_models.proofs.env.next_tuple.Goals.{else-index-bound-via-then-index-bound+else-varies, else-index-bound-via-else-index-bound}

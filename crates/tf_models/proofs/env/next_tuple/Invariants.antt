@@ -1,6 +1,6 @@
 use Rattle.std.proofs.Common.{◌≡◌, length, take}
+use Rattle.enc_base.proofs.TupleOrder.{IsStepping}
 use Rattle.tf_models.specs.Search.{tried}
-use Rattle.tf_models.proofs.NextTuple.{IsStepping}
 use Rattle.tf_models.proofs.env.next_tuple.Given as goal
 
 abbrev pub invariant-loop-i : goal.invariant-loop-i

@@ -1,5 +1,5 @@
 use Rattle.std.proofs.Common.{◌+◌, ◌-◌, ◌/◌, ◌%◌, ◌≡◌, ℕ, sym, ap, ◌∙◌, arith}
-use Rattle.tf_models.proofs.NumberedTuples.{front, front-all, front-div, front-mod, front-zero}
+use Rattle.enc_base.proofs.NumberedTuples.{front, front-all, front-div, front-mod, front-zero}
 use Rattle.tf_models.proofs.members.digit.Goals as goal
 
 pub loop-init : goal.loop-init

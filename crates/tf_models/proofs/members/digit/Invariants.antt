@@ -1,6 +1,6 @@
 use Rattle.std.proofs.Common.{◌≡◌, ◌+◌, ◌-◌, replicate, take}
 use Rattle.enc_base.specs.Tables.{place}
-use Rattle.tf_models.specs.TupleNumbers.{tuple_at}
+use Rattle.enc_base.specs.Tuples.{tuple_at}
 use Rattle.tf_models.proofs.members.digit.Given as goal
 
 abbrev pub invariant-loop : goal.invariant-loop

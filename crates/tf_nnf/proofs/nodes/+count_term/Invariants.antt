@@ -1,6 +1,7 @@
 use Rattle.std.proofs.Common.{◌≡◌, take}
 use Rattle.std.specs.List.{sum_by}
-use Rattle.tf_nnf.specs.Nodes.{term_nodes, in_64_bits}
+use Rattle.enc_base.specs.Counts.{in_64_bits}
+use Rattle.tf_nnf.specs.Nodes.{term_nodes}
 use Rattle.tf_nnf.proofs.nodes.+count_term.Given as goal
 
 abbrev pub invariant-count_terms-loop-term : goal.invariant-count_terms-loop-term

@@ -1,6 +1,7 @@
 use Rattle.std.proofs.Common.{◌≡◌, take}
 use Rattle.std.specs.List.{sum_by}
-use Rattle.tf_nnf.specs.Nodes.{stated_nodes, in_64_bits}
+use Rattle.enc_base.specs.Counts.{in_64_bits}
+use Rattle.tf_nnf.specs.Nodes.{stated_nodes}
 use Rattle.tf_nnf.proofs.normal.problem_nodes.Given as goal
 
 abbrev pub invariant-loop-stated : goal.invariant-loop-stated

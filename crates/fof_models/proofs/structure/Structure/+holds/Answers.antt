@@ -5,7 +5,7 @@ use Rattle.fof_models.specs.declared.formula.Fof.TheViews.{the_lemmas}
 use Rattle.fof_models.proofs.Parts.{atom_sound, equal_sound, not_sound, and_sound, or_sound, implies_sound, not_depth, and_depth, or_depth, implies_depth, true_is, false_is, atom_is, equal_is, not_is, and_is, or_is, implies_is, implied, formula_sound_at, depth_at}
 use Rattle.fof_models.proofs.PrefixCounts.{universals_depth, universals_formula, existentials_depth, existentials_formula}
 use Rattle.fof_models.proofs.PrefixTruth.{universals_is, existentials_is}
-use Rattle.fof_models.proofs.Tuples.{tuple_length, front_left, Room-same}
+use Rattle.fof_models.proofs.Tuples.{tuple_length, tuple_below, front_left, Room-same}
 use Rattle.fof_models.proofs.Searching.{ready_at, beq-same, searching_first, searching_next, searching_all, left_falls}
 use Rattle.fof_models.proofs.structure.Structure.+holds.Goals as goal
 
@@ -263,17 +263,12 @@ is_each-next_tuple-requires-clause-there t c =
           c.loop-env.env.items searching.tuple,
     ))
 
-pub is_each-next_tuple-requires-clause-room : goal.is_each-next_tuple-requires-clause-room
-is_each-next_tuple-requires-clause-room t c =
+pub is_each-next_tuple-requires-clause-below : goal.is_each-next_tuple-requires-clause-below
+is_each-next_tuple-requires-clause-below t c =
     let searching = c.loop-env.invariant.searching in
     rw c.holds.ensures.kept
-    (omega (
-      arith,
-      c.requires.room,
-      c.loop-env.invariant.room,
-      tuple_length c.args.self.now.size c.args.count searching.number c.args.env.now.items
-          c.loop-env.env.items searching.tuple,
-    ))
+    (tuple_below c.args.self.now.size c.args.count searching.number c.args.env.now.items
+    c.loop-env.env.items searching.tuple)
 
 pub is_each-returns-then-not-next_tuple-clause-exact : goal.is_each-returns-then-not-next_tuple-clause-exact
 is_each-returns-then-not-next_tuple-clause-exact t c =

@@ -1,7 +1,8 @@
 use Rattle.std.proofs.Common.{rules, sym, ap, arith, length}
 use Rattle.std.proofs.lemmas.List.{length-map}
+use Rattle.enc_base.proofs.Placing.{placed_within}
 use Rattle.fof_models.specs.declared.formula.FofTerm.TheViews.{the_lemmas}
-use Rattle.fof_models.proofs.Places.{placed_step, placed_fits, placed_within, term_sound_at, symbol_within, table_length, table_entry, apply_sound, variable_sound, variable_value, apply_value, entry_is}
+use Rattle.fof_models.proofs.Places.{placed_step, placed_fits, term_sound_at, symbol_within, table_length, table_entry, apply_sound, variable_sound, variable_value, apply_value, entry_is}
 use Rattle.fof_models.proofs.structure.Structure.+value.Goals as goal
 
 pub value-element-requires : goal.value-element-requires
@@ -52,7 +53,7 @@ pub applied-offset_bounds-table-at : goal.applied-offset_bounds-table-at
 applied-offset_bounds-table-at t c =
     omega (
       arith,
-      placed_within _ _ _ _ c.place_in-at.ensures,
+      placed_within _ _ _ c.place_in-at.ensures,
       table_length _ _ _ _ _ c.requires.ready.well_formed c.requires.symbol,
       ap length c.table-table.ensures,
     )
@@ -61,7 +62,7 @@ pub applied-bounds-table-at : goal.applied-bounds-table-at
 applied-bounds-table-at t c =
     omega (
       arith,
-      placed_within _ _ _ _ c.place_in-at.ensures,
+      placed_within _ _ _ c.place_in-at.ensures,
       table_length _ _ _ _ _ c.requires.ready.well_formed c.requires.symbol,
       ap length c.table-table.ensures,
     )
@@ -77,7 +78,7 @@ applied-returns-clause-within t c =
     (table_entry _ _ _ _ _ c.requires.ready.well_formed c.requires.symbol _
     (omega (
       arith,
-      placed_within _ _ _ _ c.place_in-at.ensures,
+      placed_within _ _ _ c.place_in-at.ensures,
       table_length _ _ _ _ _ c.requires.ready.well_formed c.requires.symbol,
     )))
 

@@ -1,6 +1,6 @@
 use Rattle.std.proofs.Common.{◌<◌, length, subst, arith}
+use Rattle.enc_base.proofs.NumberedTuples.{length-tuple_at}
 use Rattle.tf_models.specs.Evaluation.{listed, IsNumber}
-use Rattle.tf_models.proofs.NumberedTuples.{length-tuple_at}
 use Rattle.tf_models.proofs.members.Members.at.Goals as goal
 
 pub digit-requires-clause-within : goal.digit-requires-clause-within

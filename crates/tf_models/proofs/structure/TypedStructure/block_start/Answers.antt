@@ -1,8 +1,8 @@
 use Rattle.std.proofs.Common.{arith, sym, ◌∙◌}
+use Rattle.enc_base.proofs.Tables.{sum_below-next, sum_below-part}
 use Rattle.tf_models.specs.Reading.{tables}
 use Rattle.tf_models.specs.Fit.{length_at}
 use Rattle.tf_models.proofs.EvenBlocks.{even_start, even_product}
-use Rattle.tf_models.proofs.NumberedTuples.{sum_below-next, sum_below-part}
 use Rattle.tf_models.proofs.structure.TypedStructure.block_start.Goals as goal
 
 pub overflow_mul-result : goal.overflow_mul-result
