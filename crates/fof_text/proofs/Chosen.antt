@@ -7,11 +7,12 @@ use Rattle.std.specs.Fmt.{decimal}
 use Rattle.std.proofs.lemmas.List.{length-map}
 use Rattle.std.proofs.lemmas.Bool.Decides.{nat_tests}
 use Rattle.std.proofs.lemmas.Fmt.{decimal_by_steps}
+use Rattle.enc_base.specs.Names.{IsWritable}
 use Rattle.fof_models.specs.declared.problem.FofSymbol.{FofSymbol}
 use Rattle.tptp_words.specs.Text.{is_printable, AllPass, some_bytes}
+use Rattle.tptp_syntax.proofs.WritableNames.{IsWritable-passes, some_bytes-writable, passes-writable}
 use Rattle.fof_text.specs.Names.{is_among, is_free, least_below, numbered, free_number, choice}
 use Rattle.fof_text.specs.Names.{choices, wanted_names}
-use Rattle.fof_text.specs.States.{IsWritable}
 use Rattle.fof_text.specs.Laws.{NumbersAreLeast, ChosenNamesAreNames}
 use Rattle.fof_text.proofs.Choices.{free_found, chosen_differ, length-chosen}
 
@@ -55,10 +56,11 @@ some_append (b ∷ us) vs h = refl
 
 numbered_writable : (name : List ℕ) (k : ℕ) → k < 2 ^ 64 → IsWritable name
     → IsWritable (numbered name k)
-numbered_writable name k l h = (
-  some_append name (codes "_" ++ decimal k) h.0,
-  pass_append is_printable name (codes "_" ++ decimal k) h.1 (refl, decimal_printable k l),
-)
+numbered_writable name k l h =
+    IsWritable-passes (numbered name k)
+    (some_append name (codes "_" ++ decimal k) (some_bytes-writable name h))
+    (pass_append is_printable name (codes "_" ++ decimal k) (passes-writable name h)
+    (refl, decimal_printable k l))
 
 least_below-within : (n : ℕ) (test : ℕ → Bool) → least_below n test ≤ n
 least_below-within zero test = omega arith

@@ -1,6 +1,7 @@
 -- The words of a formula with its name and role derive an entry.
 use Rattle.std.proofs.Common.{◌≡◌, ℕ, inl, inr, List, ◌∷◌, Some, refl}
 use Rattle.std.specs.Prelude.{codes}
+use Rattle.enc_base.specs.Names.{IsWritable}
 use Rattle.fof_models.specs.declared.problem.FofRole.{FofRole}
 use Rattle.fof_models.specs.declared.problem.FofRole.TheVariants.{Axiom, NegatedConjecture}
 use Rattle.fof_models.specs.declared.problem.FofFormula.{FofFormula}
@@ -15,7 +16,6 @@ use Rattle.tptp_syntax.specs.Grammar.{formula, entry, statement, notes}
 use Rattle.tptp_syntax.specs.Files.{strict}
 use Rattle.fof_text.specs.Written.{Writer, mark_word, lower_word, label_word, role_name}
 use Rattle.fof_text.specs.Written.{entry_words, formula_words}
-use Rattle.fof_text.specs.States.{IsWritable}
 use Rattle.fof_text.proofs.RawTrees.{raw_formula}
 use Rattle.fof_text.proofs.Spelled.{Joins, Joined, text, label_is, done_ends}
 use Rattle.fof_text.proofs.Joins.{close_stops}

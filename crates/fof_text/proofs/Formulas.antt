@@ -6,6 +6,7 @@ use Rattle.std.specs.List.{list_all, AllByRecursion}
 use Rattle.std.proofs.lemmas.Bool.{and_parts}
 use Rattle.std.proofs.lemmas.List.Sums.{sum_by-cons}
 use Rattle.std.proofs.lemmas.Simd.{map-map}
+use Rattle.enc_base.specs.Names.{IsWritable}
 use Rattle.fof_models.specs.declared.problem.FofSymbol.{FofSymbol}
 use Rattle.fof_models.specs.declared.formula.FofTerm.{FofTerm}
 use Rattle.fof_models.specs.declared.formula.Fof.{Fof, roll-Fof}
@@ -21,7 +22,6 @@ use Rattle.fof_text.specs.Names.{name_at, AllDiffer}
 use Rattle.fof_text.specs.Written.{Writer, mark_word, separated, in_brackets, Both, formula_words}
 use Rattle.fof_text.specs.Written.{formula_words_step}
 use Rattle.fof_text.specs.Meaning.{term_meant, formula_meant}
-use Rattle.fof_text.specs.States.{IsWritable}
 use Rattle.fof_text.proofs.Places.{place_there, binders_of}
 use Rattle.fof_text.proofs.Trees.{formulas_by_layer}
 use Rattle.fof_text.proofs.RawTrees.{raw_term, RawBoth, raw_formula, raw_formula_step}

@@ -9,6 +9,7 @@ use Rattle.std.specs.Char.{is_ascii_lowercase, is_ascii_digit}
 use Rattle.std.proofs.lemmas.Fmt.{decimal_by_steps}
 use Rattle.std.proofs.lemmas.Bool.{and_parts}
 use Rattle.std.proofs.lemmas.Bool.Decides.{nat_tests}
+use Rattle.enc_base.specs.Names.{IsWritable}
 use Rattle.tptp_words.specs.declared.word.WordKind.{WordKind}
 use Rattle.tptp_words.specs.declared.word.WordKind.TheVariants.{Lower, Upper, Quoted, Distinct}
 use Rattle.tptp_words.specs.declared.word.WordKind.TheVariants.{Dollar, System, Number, Mark}
@@ -20,9 +21,9 @@ use Rattle.tptp_words.specs.Layout.{written}
 use Rattle.tptp_words.proofs.Longest.{Name, Digits, Tilde, Done, or_die, Ends, lower_run, upper_run}
 use Rattle.tptp_words.proofs.Longest.{quoted_run, digits_run}
 use Rattle.tptp_words.proofs.ReadBack as back
+pub use Rattle.tptp_syntax.proofs.WritableNames.{some_bytes-writable, passes-writable}
 use Rattle.fof_text.specs.Written.{Writer, is_lower, name_word, label_word, variable_name}
 use Rattle.fof_text.specs.Written.{variable_word, before, after, before_of, after_of, is_between}
-use Rattle.fof_text.specs.States.{IsWritable}
 
 -- ---- gaps
 
@@ -139,7 +140,7 @@ quoted_joins : (n : List ℕ) → IsWritable n
     → Joins (λ rest. record { kind = Quoted; spelling = in_quotes 39 n } ∷ rest)
 quoted_joins n h = record {
   joined = λ rest j s. (
-    (n, h.1, h.0, refl),
+    (n, passes-writable n h, some_bytes-writable n h, refl),
     subst (λ q. Ends q (text rest))
         (sym (quoted_run n)) s.done,
     j,
@@ -189,7 +190,7 @@ label_is n h = go (is_lower n) (list_all is_ascii_digit n) refl refl
         else record { kind = Quoted; spelling = in_quotes 39 n }) n label
     go true w e f = record { joins = lower_joins n (lower_spelled n e); says = refl }
     go false true e f = record {
-      joins = number_joins n (all_pass is_ascii_digit n f, h.0);
+      joins = number_joins n (all_pass is_ascii_digit n f, some_bytes-writable n h);
       says =
           ap (λ v. if v then Some n else None) f;
     }

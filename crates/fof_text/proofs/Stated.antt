@@ -3,6 +3,7 @@ use Rattle.std.proofs.Common.{◌≡◌, ◌+◌, ℕ, List, [], ◌∷◌, ◌+
 use Rattle.std.proofs.Common.{subst, arith, append_assoc}
 use Rattle.std.specs.List.{AllByRecursion}
 use Rattle.std.proofs.Math.Nat.{le_refl}
+use Rattle.enc_base.specs.Names.{IsWritable}
 use Rattle.fof_models.specs.declared.problem.FofSymbol.{FofSymbol}
 use Rattle.fof_models.specs.declared.problem.FofFormula.{FofFormula}
 use Rattle.fof_models.specs.Sound.{IsSoundFormula}
@@ -17,7 +18,7 @@ use Rattle.tptp_syntax.specs.Files.{strict, DeriveWithin, Derive}
 use Rattle.fof_text.specs.Names.{AllDiffer}
 use Rattle.fof_text.specs.Written.{comment_line, problem_words, formula_words, before, after}
 use Rattle.fof_text.specs.Written.{text_of}
-use Rattle.fof_text.specs.States.{StandFor, IsWritable}
+use Rattle.fof_text.specs.States.{StandFor}
 use Rattle.fof_text.specs.Laws.{TextStatesItsProblem, CommentsChangeNothing}
 use Rattle.fof_text.proofs.RawTrees.{raw_formula}
 use Rattle.fof_text.proofs.Spelled.{blank_before, blank_after, Joined}

@@ -5,6 +5,7 @@ use Rattle.std.specs.Prelude.{◌^◌, slice_get}
 use Rattle.std.specs.List.{list_all, AllByRecursion}
 use Rattle.std.proofs.lemmas.Bool.{and_parts, ltb-true}
 use Rattle.std.proofs.lemmas.Option.{slice_get_within}
+use Rattle.enc_base.specs.Names.{IsWritable}
 use Rattle.fof_models.specs.declared.problem.FofSymbol.{FofSymbol}
 use Rattle.fof_models.specs.declared.formula.FofTerm.{FofTerm, roll-FofTerm}
 use Rattle.fof_models.specs.declared.formula.FofTerm.TheVariants as T
@@ -23,7 +24,6 @@ use Rattle.fof_text.specs.Names.{name_at, AllDiffer}
 use Rattle.fof_text.specs.Written.{Writer, applied, variable_word, variable_name, term_words}
 use Rattle.fof_text.specs.Written.{term_words_step}
 use Rattle.fof_text.specs.Meaning.{term_meant}
-use Rattle.fof_text.specs.States.{IsWritable}
 use Rattle.fof_text.proofs.Places.{place_there, binders_of, variable_there}
 use Rattle.fof_text.proofs.Trees.{terms_by_layer}
 use Rattle.fof_text.proofs.RawTrees.{raw_term, raw_term_step}

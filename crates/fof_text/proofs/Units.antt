@@ -1,6 +1,7 @@
 -- Writers of formulas: what the words of each kind of formula derive.
 use Rattle.std.proofs.Common.{ℕ, suc, ◌+◌, ◌<◌, List, [], ◌∷◌, refl}
 use Rattle.std.specs.Prelude.{◌^◌, codes}
+use Rattle.enc_base.specs.Names.{IsWritable}
 use Rattle.tptp_words.specs.Text.{Token}
 use Rattle.tptp_phrases.specs.Phrase.{Phrase, levels, nested}
 use Rattle.tptp_phrases.specs.Phrase as phrase
@@ -15,7 +16,6 @@ use Rattle.tptp_syntax.specs.Files.{strict}
 use Rattle.fof_text.specs.Written.{Writer, mark_word, dollar_word, separated, in_brackets}
 use Rattle.fof_text.specs.Written.{side_by_side, applied, variable_word, variable_name}
 use Rattle.fof_text.specs.Written as written
-use Rattle.fof_text.specs.States.{IsWritable}
 use Rattle.fof_text.proofs.RawTrees.{untyped}
 use Rattle.fof_text.proofs.Spelled.{name_is, variable_is}
 use Rattle.fof_text.proofs.Derives.{Has, seq, give, take, one, other}

@@ -1,13 +1,14 @@
 -- What is promised of texts and of the problems that they state.
 use Rattle.std.specs.Prelude.{◌≡◌, ℕ, ◌+◌, ◌<◌, ◌^◌, true, false, List, ◌++◌, length}
 use Rattle.std.specs.List.{AllByRecursion}
+use Rattle.enc_base.specs.Names.{IsWritable}
 use Rattle.fof_models.specs.declared.problem.FofFormula.{FofFormula}
 use Rattle.fof_models.specs.declared.problem.FofProblem.{FofProblem}
 use Rattle.fof_models.specs.Sound.{IsSound}
 use Rattle.fof_models.specs.Models.{HasFiniteModel}
 use Rattle.tptp_words.specs.Text.{AllPass, not_feed}
 use Rattle.fof_text.specs.Names.{chosen_names, free_number, is_free, numbered, wanted_names}
-use Rattle.fof_text.specs.States.{IsWritable, States, AreNamed}
+use Rattle.fof_text.specs.States.{States, AreNamed}
 use Rattle.fof_text.specs.Written.{comment_line, text_of}
 
 -- the text of a sound problem states it, where each symbol has a name of its own

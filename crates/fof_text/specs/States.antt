@@ -1,6 +1,7 @@
 -- What a text states: a problem of first-order formulas. When a text has a finite model.
-use Rattle.std.specs.Prelude.{◌≡◌, ℕ, true, List, [], ◌∷◌, length}
+use Rattle.std.specs.Prelude.{◌≡◌, ℕ, List, [], ◌∷◌, length}
 use Rattle.std.specs.List.{AllByRecursion}
+use Rattle.enc_base.specs.Names.{IsWritable}
 use Rattle.fof_models.specs.declared.problem.FofFormula.{FofFormula}
 use Rattle.fof_models.specs.declared.problem.FofProblem.{FofProblem}
 use Rattle.fof_models.specs.Sound.{IsSound}
@@ -9,7 +10,6 @@ use Rattle.tptp_syntax.specs.declared.entry.StatedRole.TheVariants.{Hypothesis}
 use Rattle.tptp_syntax.specs.declared.entry.Entry.{Entry}
 use Rattle.tptp_syntax.specs.declared.entry.Entry.TheVariants.{Declaration, Statement}
 use Rattle.tptp_syntax.specs.declared.entry.File.{File}
-use Rattle.tptp_words.specs.Text.{is_printable, AllPass, some_bytes}
 use Rattle.tptp_syntax.specs.Files.{Spells}
 use Rattle.fof_text.specs.Names.{AllDiffer}
 use Rattle.fof_text.specs.Meaning.{formula_meant}
@@ -45,10 +45,6 @@ pub record TextHasFiniteModel (text : List ℕ) : Type 0 where
   pub model : HasFiniteModel problem
 
 -- ---- names that can be written
-
--- the name has a byte, and each of its bytes can stand in quotes
-abbrev pub IsWritable : List ℕ → Type 0
-IsWritable n = (some_bytes n ≡ true) × AllPass is_printable n
 
 -- Each symbol has a name of its own, and the names of the symbols and formulas can be written.
 pub record AreNamed (names : List (List ℕ)) (p : FofProblem) : Type 0 where

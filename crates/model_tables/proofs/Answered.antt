@@ -1,12 +1,13 @@
 -- The answer to a whole text.
 use Rattle.std.proofs.Common.{◌≡◌, ℕ, ◌≤◌, List, [], ◌∷◌, length, Option, Some, None, Ok, Err}
 use Rattle.std.proofs.Common.{refl, ap, subst, arith}
+use Rattle.enc_base.specs.Counts.{most_entries, in_64_bits}
 use Rattle.tptp_words.specs.Text.{IsText}
 use Rattle.tptp_words.specs.Scanning.{Left}
 use Rattle.model_tables.specs.declared.error.TableError.{TableError}
 use Rattle.model_tables.specs.declared.error.TableError.TheVariants as e
 use Rattle.model_tables.specs.Grammar.{Table}
-use Rattle.model_tables.specs.Faults.{Asked, missing_faults, most_entries, carried}
+use Rattle.model_tables.specs.Faults.{Asked, missing_faults}
 use Rattle.model_tables.specs.Refusals.{Says, IsRefused, Verdict}
 use Rattle.model_tables.specs.Steps.{Start, unless_missing}
 use Rattle.model_tables.specs.Leads.{lead}
@@ -14,8 +15,8 @@ use Rattle.model_tables.specs.Checks.{first_fault}
 use Rattle.model_tables.proofs.Verdicts.{verdict_of}
 
 -- a number of entries within the limit is below 2^64
-pub carried_few : (n : ℕ) → n ≤ most_entries → carried n ≡ n
-carried_few n few = omega arith
+pub in_64_bits-few : (n : ℕ) → n ≤ most_entries → in_64_bits n ≡ n
+in_64_bits-few n few = omega arith
 
 -- ---- what is missing
 

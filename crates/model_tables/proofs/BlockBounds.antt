@@ -7,18 +7,17 @@ use Rattle.std.proofs.lemmas.List.{get_or-replicate, length-replicate, take-appe
 use Rattle.std.proofs.Math.ListN.{drop_of_length-le}
 use Rattle.std.proofs.lemmas.Bool.{cases_lt}
 use Rattle.enc_base.specs.Tables.{EachBelow, sum_below, tuple_count, place, total, begins, blocks}
-use Rattle.enc_base.proofs.Tables.{sum_below-same, blocks-at}
+use Rattle.enc_base.specs.Tuples.{tuple_at}
+use Rattle.enc_base.proofs.Tables.{sum_below-same, blocks-at, sum_below-next, sum_below-part}
+use Rattle.enc_base.proofs.NumberedTuples.{total-numbered, begins-numbered, place-tuple_at}
 use Rattle.tf_core.specs.declared.signature.Symbol.{Symbol}
 use Rattle.tf_core.specs.declared.signature.Signature.{Signature}
 use Rattle.tf_core.specs.TypedTables.{block_length}
 use Rattle.tf_core.specs.Typing.{IsSymbol}
 use Rattle.tf_models.specs.declared.structure.TypedStructure.{TypedStructure}
 use Rattle.tf_models.specs.Reading.{tables}
-use Rattle.tf_models.specs.TupleNumbers.{tuple_at}
 use Rattle.tf_models.specs.Fit.{ConstructorsFit, block_count, length_at, bound_at, parameters_at}
 use Rattle.tf_models.specs.Evaluation.{IsBlock}
-use Rattle.tf_models.proofs.NumberedTuples.{total-numbered, begins-numbered, place-tuple_at}
-use Rattle.tf_models.proofs.NumberedTuples.{sum_below-next, sum_below-part}
 use Rattle.tf_models.proofs.SymbolBlocks.{some_member, parameters_below, block_positive, blocks_fit}
 use Rattle.model_tables.specs.Faults.{first_over}
 use Rattle.model_tables.specs.Typed.{symbol_entries, symbol_bounds}

@@ -5,7 +5,9 @@ use Rattle.std.specs.Prelude.{sum, sum_by, slice_index}
 use Rattle.std.proofs.lemmas.List.{get_or-replicate, length-replicate}
 use Rattle.std.proofs.lemmas.List.Sums.{sum-map}
 use Rattle.enc_base.specs.Tables.{EachBelow, tuple_count, place}
+use Rattle.enc_base.specs.Tuples.{IsPlaced}
 use Rattle.enc_base.proofs.Tables.{EachBelow-length}
+use Rattle.enc_base.proofs.Placing.{place-step, place-fits, place-whole, placed_within}
 use Rattle.tf_core.specs.declared.signature.Constructor.{Constructor}
 use Rattle.tf_core.specs.declared.signature.Symbol.{Symbol}
 use Rattle.tf_core.specs.declared.signature.Signature.{Signature}
@@ -15,8 +17,6 @@ use Rattle.tf_core.specs.TypedTables.{TypedTables, constructor_entry}
 use Rattle.tf_models.specs.declared.structure.TypedStructure.{TypedStructure}
 use Rattle.tf_models.specs.Reading.{tables}
 use Rattle.tf_models.specs.Fit.{ConstructorsFit}
-use Rattle.tf_models.specs.Evaluation.{IsPlaced}
-use Rattle.tf_models.proofs.Placing.{place-step, place-fits, place-whole, placed_within}
 use Rattle.tf_models.proofs.TypeMembers.{constructors_give, constructor_within, constructor_long, member_below}
 use Rattle.tf_models.proofs.Values.{symbol_typed}
 use Rattle.structure_tables.specs.EntryCounts.{typed_count, symbol_count}

@@ -6,6 +6,7 @@ use Rattle.std.proofs.Common.{is_some}
 use Rattle.std.proofs.Common.{append_assoc, append-nil, slice_index, slice_get, get_or, ◌==◌}
 use Rattle.std.specs.Prelude.{if◌then◌else◌, ltb}
 use Rattle.std.proofs.lemmas.Bool.{ltb-true, ltb-false, eqb-true}
+use Rattle.enc_base.specs.Counts.{most_entries, in_64_bits}
 use Rattle.tptp_words.specs.Text.{tokens}
 use Rattle.model_tables.specs.declared.error.TableError.{TableError}
 use Rattle.model_tables.specs.declared.error.TableError.TheVariants as e
@@ -13,7 +14,7 @@ use Rattle.model_tables.specs.declared.form.Kind.{Kind}
 use Rattle.model_tables.specs.Grammar.{Item, Table}
 use Rattle.model_tables.specs.Places.{AtItemEnd}
 use Rattle.model_tables.specs.Faults.{Asked, Want, Shape, faults, is_of, entries_of, first_missing}
-use Rattle.model_tables.specs.Faults.{most_entries, limit_faults, carried, name_faults}
+use Rattle.model_tables.specs.Faults.{limit_faults, name_faults}
 use Rattle.model_tables.specs.Faults.{length_faults}
 use Rattle.model_tables.specs.Faults.{first_over, range_faults, entry_faults}
 use Rattle.model_tables.specs.Items.{HaveTables, tables_by}
@@ -27,7 +28,7 @@ use Rattle.model_tables.proofs.NoFaults.{is_of-same, nothing_missing, tables_giv
 pub within_limit : (entries : ℕ) → limit_faults entries ≡ [] → entries ≤ most_entries
 within_limit entries none =
     ltb-false most_entries entries
-    (fault_none (ltb most_entries entries) (e.TooLarge (carried entries)) none)
+    (fault_none (ltb most_entries entries) (e.TooLarge (in_64_bits entries)) none)
 
 -- There are so many entries as the shape asks, each below its bound.
 pub record HasShape (shape : Shape) (entries : List ℕ) : Type 0 where

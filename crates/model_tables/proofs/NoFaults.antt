@@ -6,6 +6,7 @@ use Rattle.std.proofs.Common.{append_assoc, append-nil, slice_index, ◌==◌, �
 use Rattle.std.specs.Prelude.{if◌then◌else◌}
 use Rattle.std.specs.List.{AllByRecursion, list_any}
 use Rattle.std.proofs.lemmas.Bool.{lt-ltb, le-ltb, eq-eqb}
+use Rattle.enc_base.specs.Counts.{most_entries, in_64_bits}
 use Rattle.fof_text.proofs.Places.{same_is}
 use Rattle.model_tables.specs.declared.error.TableError.TheVariants as e
 use Rattle.model_tables.specs.declared.form.Form.{Form}
@@ -15,7 +16,7 @@ use Rattle.model_tables.specs.declared.form.Kind.TheVariants.{Predicate}
 use Rattle.model_tables.specs.Grammar.{Item, size_word}
 use Rattle.model_tables.specs.Faults.{Want, Shape, same_kind, is_of, is_wanted, entries_of}
 use Rattle.model_tables.specs.Faults.{first_missing}
-use Rattle.model_tables.specs.Faults.{wanted_before, most_entries, fault_if, limit_faults, carried}
+use Rattle.model_tables.specs.Faults.{wanted_before, fault_if, limit_faults}
 use Rattle.model_tables.specs.Faults.{size_faults, missing_faults, name_faults, length_faults}
 use Rattle.model_tables.specs.Faults.{first_over}
 use Rattle.model_tables.specs.Faults.{range_faults, entry_faults}
@@ -48,7 +49,7 @@ no_size_faults form sizes is = ap (λ b. fault_if b (e.OutOfRange (size_word for
 
 pub no_limit_faults : (entries : ℕ) → entries ≤ most_entries → limit_faults entries ≡ []
 no_limit_faults entries within =
-    ap (λ b. fault_if b (e.TooLarge (carried entries))) (le-ltb most_entries entries within)
+    ap (λ b. fault_if b (e.TooLarge (in_64_bits entries))) (le-ltb most_entries entries within)
 
 -- ---- names
 

@@ -9,6 +9,7 @@ use Rattle.std.proofs.lemmas.List.{length-set, length-map, length-replicate}
 use Rattle.std.proofs.lemmas.List.Sums.{sum-map, sum_by-cons, get_or-le-sum_by}
 use Rattle.std.proofs.lemmas.Option.{slice_get_within, get_or_from_slice_get}
 use Rattle.enc_base.specs.Tables.{tuple_count}
+use Rattle.enc_base.specs.Counts.{most_entries}
 use Rattle.fof_text.specs.Names.{AllDiffer}
 use Rattle.tf_core.specs.declared.signature.Constructor.{Constructor}
 use Rattle.tf_core.specs.declared.signature.Symbol.{Symbol}
@@ -20,7 +21,7 @@ use Rattle.tf_models.specs.Fit.{IsInhabited, IsTable, ConstructorsFit}
 use Rattle.model_tables.specs.declared.form.Kind.TheVariants as kind
 use Rattle.model_tables.specs.declared.partial.Partial.{Partial}
 use Rattle.model_tables.specs.Grammar.{Item, Table}
-use Rattle.model_tables.specs.Faults.{most_entries, entries_of}
+use Rattle.model_tables.specs.Faults.{entries_of}
 use Rattle.model_tables.specs.Items.{entries_or_none, tables_by}
 use Rattle.model_tables.specs.Steps.{with_item, with_no_items}
 use Rattle.model_tables.specs.Typed.{constructor_wants, symbol_wants, constructor_entries, typed_entries}

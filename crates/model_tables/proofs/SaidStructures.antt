@@ -1,10 +1,10 @@
 -- What holds of the structure of the table that a text says.
 use Rattle.std.proofs.Common.{◌≡◌, ℕ, ◌≤◌, List, length, Ok, Err, sym, subst}
+use Rattle.enc_base.specs.Counts.{most_entries}
 use Rattle.fof_text.specs.Names.{AllDiffer}
 use Rattle.fof_models.specs.declared.problem.FofProblem.{FofProblem}
 use Rattle.fof_models.specs.declared.structure.Structure.{Structure}
 use Rattle.model_tables.specs.declared.error.TableError.{TableError}
-use Rattle.model_tables.specs.Faults.{most_entries}
 use Rattle.model_tables.specs.Untyped.{untyped, IsUntypedTable, structure_entries}
 use Rattle.model_tables.specs.Refusals.{IsRefused}
 use Rattle.model_tables.specs.ReadUntyped.{SaysStructure}

@@ -14,8 +14,8 @@ use Rattle.tptp_words.specs.Scanning.{Left}
 use Rattle.tptp_phrases.specs.Readers.{seen, take_word, take_from, taken}
 use Rattle.tf_core.specs.declared.signature.Signature.{Signature}
 use Rattle.enc_base.specs.Tables.{tuple_count}
+use Rattle.enc_base.specs.Counts.{in_64_bits}
 use Rattle.tf_core.specs.declared.signature.Constructor.{Constructor}
-use Rattle.tf_models.specs.Evaluation.{in_64_bits}
 use Rattle.model_tables.specs.declared.error.TableError.{TableError}
 use Rattle.model_tables.specs.declared.error.TableError.TheVariants as e
 use Rattle.model_tables.specs.declared.form.Form.TheVariants.{Typed}

@@ -4,14 +4,13 @@ use Rattle.std.proofs.Common.{Some, sym, ap, ◌∙◌, subst, arith, ⊎_elim, 
 use Rattle.std.proofs.lemmas.Bool.{cases_lt}
 use Rattle.std.proofs.lemmas.List.{get_or-replicate, length-replicate}
 use Rattle.enc_base.specs.Tables.{sum_below, begins}
-use Rattle.enc_base.proofs.Tables.{sum_below-same, blocks-at}
+use Rattle.enc_base.proofs.Tables.{sum_below-same, blocks-at, sum_below-part}
+use Rattle.enc_base.proofs.NumberedTuples.{place-tuple_at, tuple_at_below, total-numbered, begins-numbered}
 use Rattle.tf_core.specs.declared.signature.Constructor.{Constructor}
 use Rattle.tf_core.specs.declared.signature.Symbol.{Symbol}
 use Rattle.tf_core.specs.TypedTables.{TypedTables, block_length}
 use Rattle.tf_models.specs.Fit.{IsTable, IsSymbolTable, parameters_at, length_at, bound_at}
 use Rattle.tf_models.specs.Fit.{block_count}
-use Rattle.tf_models.proofs.NumberedTuples.{place-tuple_at, tuple_at_below, total-numbered}
-use Rattle.tf_models.proofs.NumberedTuples.{begins-numbered, sum_below-part}
 use Rattle.model_tables.specs.Typed.{constructor_shape, symbol_shape, symbol_bounds}
 use Rattle.model_tables.proofs.Faultless.{HasShape}
 

@@ -6,6 +6,7 @@ use Rattle.std.specs.Prelude.{if◌then◌else◌, ltb}
 use Rattle.std.proofs.lemmas.Bool.{ltb-true, ltb-false}
 use Rattle.std.proofs.lemmas.List.Sums.{sum-map, get_or-le-sum_by}
 use Rattle.std.proofs.lemmas.Option.{slice_get_within, get_or_from_slice_get, same_Some}
+use Rattle.enc_base.specs.Counts.{most_entries, in_64_bits}
 use Rattle.tptp_words.specs.Words.{same}
 use Rattle.fof_text.specs.Names.{AllDiffer, place_of}
 use Rattle.fof_text.proofs.Places.{same_is}
@@ -15,8 +16,8 @@ use Rattle.model_tables.specs.declared.form.Kind.{Kind}
 use Rattle.model_tables.specs.declared.form.Kind.TheVariants.{Constructor, Symbol, Function, Predicate}
 use Rattle.model_tables.specs.Grammar.{Item}
 use Rattle.model_tables.specs.Faults.{Want, is_of, same_kind, is_wanted, entries_of, first_missing}
-use Rattle.model_tables.specs.Faults.{constructors_among, wanted_before, name_faults, fault_if, carried}
-use Rattle.model_tables.specs.Faults.{missing_faults, most_entries}
+use Rattle.model_tables.specs.Faults.{constructors_among, wanted_before, name_faults, fault_if}
+use Rattle.model_tables.specs.Faults.{missing_faults}
 use Rattle.model_tables.specs.declared.error.TableError.{TableError}
 use Rattle.model_tables.specs.declared.error.TableError.TheVariants as e
 use Rattle.model_tables.specs.Untyped.{symbol_kind, symbol_want, symbol_wants, symbol_entries, all_entries}

@@ -5,6 +5,7 @@ use Rattle.std.proofs.Common.{arith}
 use Rattle.std.proofs.Common.{Ok, Err, slice_index, get_or, ◌==◌, append_assoc}
 use Rattle.std.specs.List.{list_any}
 use Rattle.std.proofs.lemmas.Bool.{ne_eqb}
+use Rattle.enc_base.specs.Counts.{most_entries}
 use Rattle.tptp_words.specs.Text.{tokens}
 use Rattle.tf_core.specs.declared.signature.Constructor.{Constructor}
 use Rattle.tf_core.specs.declared.signature.Symbol.{Symbol}
@@ -20,7 +21,7 @@ use Rattle.model_tables.specs.declared.form.Kind.TheVariants as variant
 use Rattle.model_tables.specs.Grammar.{Item, Table}
 use Rattle.model_tables.specs.Places.{AtItemEnd}
 use Rattle.model_tables.specs.Faults.{Asked, faults, is_wanted, entries_of, entry_faults}
-use Rattle.model_tables.specs.Faults.{first_missing, wanted_before, most_entries, limit_faults_of}
+use Rattle.model_tables.specs.Faults.{first_missing, wanted_before, limit_faults_of}
 use Rattle.model_tables.specs.Items.{Once, HaveTables, tables_by}
 use Rattle.model_tables.specs.Typed.{typed, typed_structure, typed_shape, read_so_far, IsTypedTable}
 use Rattle.model_tables.specs.Typed.{constructor_want, symbol_want, constructor_wants, symbol_wants}

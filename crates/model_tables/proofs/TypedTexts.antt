@@ -12,6 +12,7 @@ use Rattle.tptp_words.specs.Words.{same}
 use Rattle.tptp_words.specs.Text.{Token, tokens}
 use Rattle.tptp_phrases.specs.Phrase.{empty, word, ◌>>=◌}
 use Rattle.enc_base.specs.Tables.{tuple_count}
+use Rattle.enc_base.specs.Counts.{most_entries}
 use Rattle.tf_core.specs.declared.signature.Constructor.{Constructor}
 use Rattle.tf_core.specs.declared.signature.Symbol.{Symbol}
 use Rattle.tf_core.specs.declared.signature.Signature.{Signature}
@@ -27,7 +28,7 @@ use Rattle.model_tables.specs.declared.form.Kind.{Kind}
 use Rattle.model_tables.specs.declared.form.Kind.TheVariants as variant
 use Rattle.model_tables.specs.Grammar.{Item, Table, opening, table}
 use Rattle.model_tables.specs.Faults.{Want, is_wanted, entries_of, entry_faults, first_missing}
-use Rattle.model_tables.specs.Faults.{most_entries, limit_faults_of, size_faults}
+use Rattle.model_tables.specs.Faults.{limit_faults_of, size_faults}
 use Rattle.model_tables.specs.Items.{entries_or_none, tables_by}
 use Rattle.model_tables.specs.Typed.{typed, typed_structure, typed_shape, read_so_far, IsTypedTable}
 use Rattle.model_tables.specs.Typed.{constructor_want, symbol_want, constructor_wants, symbol_wants}

@@ -5,6 +5,7 @@ use Rattle.std.proofs.Common.{Ok, Err, slice_get, get_or, ◌==◌}
 use Rattle.std.specs.Prelude.{if◌then◌else◌, IsTrue}
 use Rattle.std.specs.List.{AllByRecursion, list_any}
 use Rattle.std.proofs.lemmas.Bool.{ne_eqb}
+use Rattle.enc_base.specs.Counts.{most_entries}
 use Rattle.tptp_words.specs.Text.{tokens}
 use Rattle.fof_models.specs.declared.problem.FofSymbol.{FofSymbol}
 use Rattle.fof_models.specs.declared.problem.FofProblem.{FofProblem}
@@ -20,7 +21,7 @@ use Rattle.model_tables.specs.Places.{AtItemEnd}
 use Rattle.model_tables.specs.Faults.{Asked, faults, same_kind, is_of, is_wanted, entries_of}
 use Rattle.model_tables.specs.Faults.{entry_faults, constructors_among, first_missing}
 use Rattle.model_tables.specs.Faults.{wanted_before}
-use Rattle.model_tables.specs.Faults.{most_entries, size_faults}
+use Rattle.model_tables.specs.Faults.{size_faults}
 use Rattle.model_tables.specs.Items.{OnceBehind, HaveTables}
 use Rattle.model_tables.specs.Untyped.{untyped, symbol_kind, symbol_want, symbol_wants, symbol_of}
 use Rattle.model_tables.specs.Untyped.{symbol_shape, all_entries, untyped_structure, IsUntypedTable}

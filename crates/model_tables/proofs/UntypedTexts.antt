@@ -4,6 +4,7 @@ use Rattle.std.proofs.Common.{Some, Bool, true, false, refl, sym, ap, ◌∙◌,
 use Rattle.std.proofs.Common.{slice_get, get_or, ◌==◌}
 use Rattle.std.specs.Prelude.{if◌then◌else◌, sum}
 use Rattle.std.specs.List.{list_any}
+use Rattle.enc_base.specs.Counts.{most_entries}
 use Rattle.tptp_words.specs.Text.{Token, tokens}
 use Rattle.tptp_phrases.specs.Phrase.{empty, word, ◌>>=◌}
 use Rattle.fof_text.specs.Names.{AllDiffer}
@@ -15,7 +16,7 @@ use Rattle.model_tables.specs.declared.error.TableError.{TableError}
 use Rattle.model_tables.specs.declared.form.Form.TheVariants.{Untyped}
 use Rattle.model_tables.specs.Grammar.{Item, Table, opening, table}
 use Rattle.model_tables.specs.Faults.{is_of, entries_of, entry_faults}
-use Rattle.model_tables.specs.Faults.{Asked, most_entries, fault_if}
+use Rattle.model_tables.specs.Faults.{Asked, fault_if}
 use Rattle.model_tables.specs.Faults.{size_faults}
 use Rattle.model_tables.specs.Items.{HaveTables, tables_by}
 use Rattle.model_tables.specs.Untyped.{untyped, symbol_kind, symbol_wants, symbol_of}

@@ -4,6 +4,7 @@ use Rattle.std.proofs.Common.{refl, sym, ap, ◌∙◌, subst, arith, Bool, true
 use Rattle.std.specs.Prelude.{slice_get}
 use Rattle.std.specs.List.{AllByRecursion}
 use Rattle.std.proofs.lemmas.List.{length-map}
+use Rattle.enc_base.specs.Names.{IsWritable}
 use Rattle.tptp_words.specs.Words.{name}
 use Rattle.tf_core.specs.declared.signature.Constructor.{Constructor}
 use Rattle.tf_core.specs.declared.signature.Symbol.{Symbol}
@@ -17,7 +18,6 @@ use Rattle.fof_models.specs.declared.problem.FofProblem.{FofProblem}
 use Rattle.fof_models.specs.declared.structure.Structure.{Structure}
 use Rattle.fof_models.specs.Structures.{IsWellFormed}
 use Rattle.fof_text.specs.Names.{AllDiffer}
-use Rattle.fof_text.specs.States.{IsWritable}
 use Rattle.fof_text.specs.Written.{lower_word, name_word, quoted_word, is_lower}
 use Rattle.fof_text.proofs.Spelled.{name_is}
 use Rattle.model_tables.specs.declared.form.Form.TheVariants.{Typed, Untyped}

@@ -6,14 +6,14 @@ use Rattle.std.specs.List.{AllByRecursion}
 use Rattle.std.specs.Fmt.{decimal}
 use Rattle.std.specs.Char.{is_ascii_lowercase}
 use Rattle.std.proofs.lemmas.Bool.{and_parts}
+use Rattle.enc_base.specs.Names.{IsWritable}
 use Rattle.tptp_words.specs.declared.word.WordKind.TheVariants.{Lower, Dollar}
 use Rattle.tptp_words.specs.Text.{Token, is_name, IsNameFrom, IsLongest, Spells}
 use Rattle.tptp_words.proofs.Longest.{Begin, Done, Equals, Dead, run, step, Ends, longest}
 use Rattle.tptp_words.proofs.Longest.{lower_run, quoted_run, dollar_run}
 use Rattle.fof_text.specs.Written.{lower_word, mark_word, number_word, dollar_word, quoted_word}
 use Rattle.fof_text.specs.Written.{is_lower, name_word}
-use Rattle.fof_text.specs.States.{IsWritable}
-use Rattle.fof_text.proofs.Spelled.{all_pass, done_ends}
+use Rattle.fof_text.proofs.Spelled.{all_pass, done_ends, some_bytes-writable, passes-writable}
 use Rattle.model_tables.specs.declared.form.Form.{Form}
 use Rattle.model_tables.specs.declared.form.Form.TheVariants.{Typed, Untyped}
 use Rattle.model_tables.specs.declared.form.Kind.{Kind}
@@ -45,7 +45,7 @@ name_ends n h = go (is_lower n) refl
         → EndsAtSpace (if v then lower_word n else quoted_word n)
     go true e = lower_ends n e
     go false e = record {
-      spelled = (n, h.1, h.0, refl);
+      spelled = (n, passes-writable n h, some_bytes-writable n h, refl);
       ends = ap (λ q. step q 32) (quoted_run n);
     }
 

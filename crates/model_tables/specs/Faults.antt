@@ -4,6 +4,7 @@ use Rattle.std.specs.Prelude.{ℕ, zero, suc, ◌+◌, ◌-◌, ◌^◌, ◌==�
 use Rattle.std.specs.Prelude.{if◌then◌else◌, List, [], ◌∷◌, ◌++◌, length, ltb, min, Option, Some, None}
 use Rattle.std.specs.Prelude.{is_some}
 use Rattle.std.specs.List.{list_any}
+use Rattle.enc_base.specs.Counts.{most_entries, in_64_bits}
 use Rattle.tptp_words.specs.Words.{same}
 use Rattle.model_tables.specs.declared.error.TableError.{TableError}
 use Rattle.model_tables.specs.declared.error.TableError.TheVariants as e
@@ -81,22 +82,14 @@ wanted_before _ wants = []
 
 -- ---- faults
 
--- how many entries a structure may have
-abbrev pub most_entries : ℕ
-most_entries = 67108864
-
 -- this one, where the test says so
 abbrev pub fault_if : Bool → TableError → List TableError
 fault_if true fault = fault ∷ []
 fault_if false fault = []
 
--- a number of entries as a refusal carries it
-abbrev pub carried : ℕ → ℕ
-carried entries = min entries (2 ^ 64 - 1)
-
 -- more entries than the limit
 abbrev pub limit_faults : ℕ → List TableError
-limit_faults entries = fault_if (ltb most_entries entries) (e.TooLarge (carried entries))
+limit_faults entries = fault_if (ltb most_entries entries) (e.TooLarge (in_64_bits entries))
 
 abbrev pub limit_faults_of : Option ℕ → List TableError
 limit_faults_of None = []

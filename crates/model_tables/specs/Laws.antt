@@ -1,11 +1,12 @@
 -- What the definitions of tables promise one another.
 use Rattle.std.specs.Prelude.{◌≡◌, ℕ, ◌≤◌, List, length, Result}
+use Rattle.enc_base.specs.Counts.{most_entries}
 use Rattle.fof_text.specs.Names.{AllDiffer}
 use Rattle.fof_models.specs.declared.problem.FofProblem.{FofProblem}
 use Rattle.fof_models.specs.declared.structure.Structure.{Structure}
 use Rattle.model_tables.specs.declared.error.TableError.{TableError}
 use Rattle.model_tables.specs.Grammar.{Table}
-use Rattle.model_tables.specs.Faults.{Asked, most_entries}
+use Rattle.model_tables.specs.Faults.{Asked}
 use Rattle.model_tables.specs.Items.{AreItems, tables_by}
 use Rattle.model_tables.specs.Untyped.{untyped, untyped_structure, IsUntypedTable}
 use Rattle.model_tables.specs.Untyped.{structure_entries}

@@ -23,3 +23,4 @@ pub mod ReadTyped
 pub mod ReadUntyped
 -- for tests
 pub mod Samples
+pub mod RefusalNumbers

@@ -1,6 +1,7 @@
 -- How a typed table is read item by item, and what is kept of it meanwhile.
 use Rattle.std.specs.Prelude.{◌≡◌, ℕ, ◌+◌, ◌≤◌, true, List, [], length, get_or, set, slice_get, Option, Some, None}
 use Rattle.std.specs.Prelude.{Result, Ok, OnOk}
+use Rattle.enc_base.specs.Counts.{most_entries}
 use Rattle.tptp_words.specs.Scanning.{Left}
 use Rattle.fof_text.specs.Names.{AllDiffer}
 use Rattle.tf_core.specs.declared.signature.Constructor.{Constructor}
@@ -16,7 +17,7 @@ use Rattle.model_tables.specs.declared.partial.Partial.{Partial}
 use Rattle.model_tables.specs.declared.known.Known.{Known}
 use Rattle.model_tables.specs.Grammar.{Item, Table}
 use Rattle.model_tables.specs.Places.{AtName, AtItemEnd}
-use Rattle.model_tables.specs.Faults.{most_entries, faults}
+use Rattle.model_tables.specs.Faults.{faults}
 use Rattle.model_tables.specs.Refusals.{Says}
 use Rattle.model_tables.specs.Steps.{State, Stands, table_at, with_item}
 use Rattle.model_tables.specs.Leads.{lead, arrive, GoesOn}

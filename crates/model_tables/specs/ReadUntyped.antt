@@ -1,6 +1,7 @@
 -- How an untyped table is read item by item, and what is kept of it meanwhile.
 use Rattle.std.specs.Prelude.{◌≡◌, ◌≢◌, ℕ, ◌≤◌, List, [], ◌∷◌, length, slice_get, Option, Some, None, false}
 use Rattle.std.specs.Prelude.{Result, Ok, Err}
+use Rattle.enc_base.specs.Counts.{most_entries}
 use Rattle.tptp_words.specs.Scanning.{Left}
 use Rattle.fof_text.specs.Names.{AllDiffer}
 use Rattle.fof_models.specs.declared.problem.FofSymbol.{FofSymbol}
@@ -10,7 +11,7 @@ use Rattle.model_tables.specs.declared.error.TableError.TheVariants as e
 use Rattle.model_tables.specs.declared.form.Kind.{Kind}
 use Rattle.model_tables.specs.declared.symbols.Symbols.{Symbols}
 use Rattle.model_tables.specs.Grammar.{Table}
-use Rattle.model_tables.specs.Faults.{Want, Asked, is_wanted, most_entries}
+use Rattle.model_tables.specs.Faults.{Want, Asked, is_wanted}
 use Rattle.model_tables.specs.Steps.{State, table_at}
 use Rattle.model_tables.specs.Leads.{lead}
 use Rattle.model_tables.specs.Held.{slots_of}

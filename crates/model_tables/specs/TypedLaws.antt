@@ -1,12 +1,12 @@
 -- What is promised of texts as typed tables: the text is a table of a structure within the limit on
 -- entries exactly where it says a table without a fault, whose structure this is.
 use Rattle.std.specs.Prelude.{◌≡◌, ℕ, ◌≤◌, ◌<◌, List, length}
+use Rattle.enc_base.specs.Counts.{most_entries}
 use Rattle.fof_text.specs.Names.{AllDiffer}
 use Rattle.tf_core.specs.declared.signature.Signature.{Signature}
 use Rattle.tf_models.specs.declared.structure.TypedStructure.{TypedStructure}
 use Rattle.model_tables.specs.declared.error.TableError.{TableError}
 use Rattle.model_tables.specs.Grammar.{Table}
-use Rattle.model_tables.specs.Faults.{most_entries}
 use Rattle.model_tables.specs.Typed.{typed, typed_structure, IsTypedTable, structure_entries}
 use Rattle.model_tables.specs.Refusals.{IsRefused, Says}
 use Rattle.model_tables.specs.Writable.{constructor_names, symbol_names}

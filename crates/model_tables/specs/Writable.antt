@@ -1,13 +1,13 @@
 -- When the names of a structure's table can be written, and read back.
 use Rattle.std.specs.Prelude.{◌≡◌, ℕ, List, map, length, slice_get, Some}
 use Rattle.std.specs.List.{AllByRecursion}
+use Rattle.enc_base.specs.Names.{IsWritable}
 use Rattle.tf_core.specs.declared.signature.Constructor.{Constructor}
 use Rattle.tf_core.specs.declared.signature.Symbol.{Symbol}
 use Rattle.tf_core.specs.declared.signature.Signature.{Signature}
 use Rattle.tf_core.specs.Sound.{individuals}
 use Rattle.fof_models.specs.declared.problem.FofSymbol.{FofSymbol}
 use Rattle.fof_text.specs.Names.{AllDiffer}
-use Rattle.fof_text.specs.States.{IsWritable}
 
 -- the names of constructors, and of symbols
 

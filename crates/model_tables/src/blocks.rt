@@ -4,34 +4,13 @@
 ghost use Rattle.std.specs.Prelude.{◌≡◌, ◌<◌, ◌^◌, length, slice_index};
 ghost use Rattle.tf_core.specs.Typing.{IsSymbol};
 ghost use Rattle.tf_models.specs.Reading.{tables};
-ghost use Rattle.tf_models.specs.Fit.{ConstructorsFit, bound_at, parameters_at};
-ghost use Rattle.tf_models.specs.Evaluation.{IsBlock};
+ghost use Rattle.tf_models.specs.Fit.{ConstructorsFit};
 ghost use Rattle.model_tables.specs.Faults as faults;
 ghost use Rattle.model_tables.specs.Typed.{symbol_entries, symbol_bounds};
 
 use crate::checks::first_over;
 use tf_core::{Signature, Symbol};
-use tf_models::{Members, TypedStructure};
-
-/// The bound of the entries of a block.
-fn block_bound(
-    structure: &TypedStructure,
-    signature: &Signature,
-    symbol: &Symbol,
-    number: u64,
-) -> u32
-    requires block { IsBlock signature.now structure.now symbol.now number }
-    ensures { result ≡ bound_at (tables structure.now) symbol.now.result (parameters_at (tables structure.now) symbol.now number) }
-{
-    let count = structure.sizes.as_slice().len() as u32;
-    match &symbol.result {
-        None => 2,
-        Some(ty) => {
-            let members = Members::Numbered(number, count, symbol.parameters);
-            structure.size_of(signature, ty, members)
-        }
-    }
-}
+use tf_models::TypedStructure;
 
 /// The first entry that is out of range, of as many entries as the symbol's table has. Each block
 /// has an entry, so that there are no more turns than entries.
@@ -51,7 +30,7 @@ pub fn first_out_of_range(
     let mut number = 0u64;
     'walk: while start < entries.len() {
         let end = start + structure.block_length(signature, symbol, number) as usize;
-        let bound = block_bound(structure, signature, symbol, number);
+        let bound = structure.block_bound(signature, symbol, number);
         let over = first_over(&entries[start..end], bound as u64);
         if over.is_some() {
             return over;

@@ -3,10 +3,11 @@
 
 ghost use Rattle.std.specs.Prelude.{◌≡◌, ◌==◌, ℕ, not, is_some, IfOk};
 ghost use Rattle.std.specs.Option.{option_map};
+ghost use Rattle.enc_base.specs.Counts.{in_64_bits};
 ghost use Rattle.model_tables.specs.declared.error.TableError.TheVariants as e;
 ghost use Rattle.model_tables.specs.Grammar as grammar;
 ghost use Rattle.model_tables.specs.Faults as faults;
-ghost use Rattle.model_tables.specs.Faults.{carried, fault_if, missing_faults, length_faults};
+ghost use Rattle.model_tables.specs.Faults.{fault_if, missing_faults, length_faults};
 ghost use Rattle.model_tables.specs.Faults.{range_faults, limit_faults};
 ghost use Rattle.model_tables.specs.Checks.{Checks};
 
@@ -32,7 +33,7 @@ pub fn check_size(alloc: Global, form: Form, size: u32) -> Result<(), TableError
 
 /// Checks that there are no more entries than the limit, by their number, which stops at 2^64 - 1.
 pub fn check_limit(entries: u64) -> Result<(), TableError>
-    ensures { (all : ℕ) → entries ≡ carried all → Checks (limit_faults all) result }
+    ensures { (all : ℕ) → entries ≡ in_64_bits all → Checks (limit_faults all) result }
 {
     if entries <= MOST_ENTRIES {
         return Ok(());

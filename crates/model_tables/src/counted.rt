@@ -3,12 +3,12 @@
 
 ghost use Rattle.std.specs.Prelude.{◌≡◌, ◌≤◌, ◌<◌, ◌^◌, length, replicate, IfOk};
 ghost use Rattle.enc_base.specs.Tables.{EachBelow, tuple_count};
+ghost use Rattle.enc_base.specs.Tuples.{IsPlaced};
+ghost use Rattle.enc_base.specs.Counts.{in_64_bits};
 ghost use Rattle.tf_core.specs.Typing.{IsSignature, IsSymbol};
 ghost use Rattle.tf_models.specs.Reading.{tables};
 ghost use Rattle.tf_models.specs.Fit.{ConstructorsFit};
-ghost use Rattle.tf_models.specs.Evaluation.{IsPlaced};
 ghost use Rattle.model_tables.specs.CountedTables.{without_symbols, AreCounted};
-ghost use Rattle.model_tables.specs.Faults.{carried};
 ghost use Rattle.model_tables.specs.Typed as typed;
 
 use enc_base::NoMemory;
@@ -62,7 +62,8 @@ impl CountedTables<'_> {
         requires typed { IsSignature self.now.signature.now }
         requires constructors { ConstructorsFit self.now.signature.now (tables self.now.structure.now) }
         requires few { length self.now.structure.now.sizes < 2 ^ 32 }
-        ensures { IfOk result (λ entries. entries ≡ carried (typed.typed_entries self.now.signature.now (tables self.now.structure.now))) }
+        ensures { IfOk result (λ entries. entries
+            ≡ in_64_bits (typed.typed_entries self.now.signature.now (tables self.now.structure.now))) }
     {
         let sizes = self.structure.sizes.as_slice();
         typed_entries(alloc, self.signature, sizes, self)
@@ -74,7 +75,8 @@ impl CountedTables<'_> {
         requires symbol { IsSymbol self.now.signature.now symbol.now }
         requires constructors { ConstructorsFit self.now.signature.now (tables self.now.structure.now) }
         requires few { length self.now.structure.now.sizes < 2 ^ 32 }
-        ensures { IfOk result (λ entries. entries ≡ carried (typed.symbol_entries (tables self.now.structure.now) symbol.now)) }
+        ensures { IfOk result (λ entries. entries
+            ≡ in_64_bits (typed.symbol_entries (tables self.now.structure.now) symbol.now)) }
     {
         let sizes = self.structure.sizes.as_slice();
         entries_of_symbol(alloc, self, sizes, symbol)

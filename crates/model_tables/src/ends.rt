@@ -3,11 +3,12 @@
 
 ghost use Rattle.std.specs.Prelude.{◌≤◌, ◌<◌, ◌^◌, length, replicate, Some};
 ghost use Rattle.enc_base.specs.Tables.{tuple_count};
+ghost use Rattle.enc_base.specs.Counts.{most_entries};
 ghost use Rattle.tf_core.specs.Typing.{IsSignature, IsSymbol};
 ghost use Rattle.tf_models.specs.Reading.{tables};
 ghost use Rattle.tf_models.specs.Fit.{ConstructorsFit};
 ghost use Rattle.model_tables.specs.declared.form.Kind.TheVariants as kind;
-ghost use Rattle.model_tables.specs.Faults.{entry_faults, most_entries};
+ghost use Rattle.model_tables.specs.Faults.{entry_faults};
 ghost use Rattle.model_tables.specs.Typed.{constructor_shape, symbol_shape, symbol_entries};
 ghost use Rattle.model_tables.specs.Checks.{Checks};
 

@@ -1,5 +1,8 @@
 //! Why a text is refused as a table.
 
+ghost use Rattle.std.specs.Prelude.{◌≡◌};
+ghost use Rattle.model_tables.specs.RefusalNumbers.{number_of};
+
 use enc_base::{Name, NoMemory};
 use thiserror::Error;
 
@@ -51,6 +54,24 @@ pub enum TableError {
     /// There was no memory.
     #[error("no memory")]
     Memory,
+}
+
+impl TableError {
+    /// The number under which the refusal is noted. Want of memory has none.
+    pub fn number(&self) -> Option<u8>
+        ensures { result ≡ number_of self.now }
+    {
+        match self {
+            TableError::TableSyntax { .. } => Some(41),
+            TableError::UnknownSymbol { .. } => Some(42),
+            TableError::Missing { .. } => Some(43),
+            TableError::Repeated { .. } => Some(44),
+            TableError::WrongLength { .. } => Some(45),
+            TableError::OutOfRange { .. } => Some(46),
+            TableError::TooLarge { .. } => Some(33),
+            TableError::Memory => None,
+        }
+    }
 }
 
 impl From<NoMemory> for TableError {

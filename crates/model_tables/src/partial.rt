@@ -2,8 +2,8 @@
 #![tactic(auto)]
 
 ghost use Rattle.std.specs.Prelude.{◌≡◌, ◌≤◌, ◌<◌, [], false, length, replicate, set, slice_get, Some, IfOk};
+ghost use Rattle.enc_base.specs.Counts.{most_entries};
 ghost use Rattle.tf_models.specs.Fit.{IsInhabited};
-ghost use Rattle.model_tables.specs.Faults.{most_entries};
 ghost use Rattle.model_tables.specs.Typed.{constructor_entries};
 ghost use Rattle.model_tables.specs.Steps.{with_no_items};
 ghost use Rattle.model_tables.specs.ReadTyped.{with_constructor, with_symbol, IsPart, IsLimited, IsSaid};

@@ -2,11 +2,11 @@
 #![tactic(auto)]
 
 ghost use Rattle.std.specs.Prelude.{◌≡◌, ◌≢◌, ◌≤◌, ◌<◌, ◌^◌, length, IfOk, IfErr};
+ghost use Rattle.enc_base.specs.Counts.{most_entries};
 ghost use Rattle.tf_core.specs.Typing.{IsSignature};
 ghost use Rattle.tf_models.specs.declared.structure.TypedStructure.{TypedStructure};
 ghost use Rattle.model_tables.specs.declared.error.TableError.{TableError};
 ghost use Rattle.model_tables.specs.declared.error.TableError.TheVariants as e;
-ghost use Rattle.model_tables.specs.Faults.{most_entries};
 ghost use Rattle.model_tables.specs.Refusals.{IsRefused};
 ghost use Rattle.model_tables.specs.Typed.{typed, IsTypedTable, structure_entries};
 ghost use Rattle.model_tables.specs.TypedLaws.{HasNames};

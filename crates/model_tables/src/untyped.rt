@@ -3,6 +3,7 @@
 
 ghost use Rattle.std.specs.Prelude.{◌≡◌, ◌≢◌, ◌≤◌, ◌<◌, List, [], ◌∷◌, length, map, replicate};
 ghost use Rattle.std.specs.Prelude.{Option, Some, None, Result, true, false, IfOk, IfErr, OnOk};
+ghost use Rattle.enc_base.specs.Counts.{most_entries};
 ghost use Rattle.tptp_phrases.specs.Readers.{goes_on, seen};
 ghost use Rattle.fof_text.specs.Names.{AllDiffer};
 ghost use Rattle.fof_models.specs.declared.structure.Structure.{Structure};
@@ -11,7 +12,7 @@ ghost use Rattle.model_tables.specs.declared.error.TableError.TheVariants as e;
 ghost use Rattle.model_tables.specs.declared.form.Form.TheVariants as form;
 ghost use Rattle.model_tables.specs.Grammar.{Table};
 ghost use Rattle.model_tables.specs.Places.{AtSizesEnd};
-ghost use Rattle.model_tables.specs.Faults.{Asked, limit_faults, most_entries};
+ghost use Rattle.model_tables.specs.Faults.{Asked, limit_faults};
 ghost use Rattle.model_tables.specs.Items.{entries_or_none};
 ghost use Rattle.model_tables.specs.Untyped.{untyped, all_entries, IsUntypedTable, structure_entries};
 ghost use Rattle.model_tables.specs.Refusals.{IsRefused};

@@ -3,7 +3,7 @@ use Rattle.std.proofs.lemmas.Result.{err_from_is_err_and}
 use Rattle.enc_base.specs.Tables.{tuple_count}
 use Rattle.model_tables.specs.Faults.{length_faults, range_faults, first_over}
 use Rattle.model_tables.specs.Checks.{first_fault, Checks}
-use Rattle.model_tables.proofs.Answered.{carried_few}
+use Rattle.model_tables.proofs.Answered.{in_64_bits-few}
 use Rattle.model_tables.proofs.ItemEnds.{length_first, ranges_last}
 use Rattle.model_tables.proofs.ends.check_constructor.Goals as goal
 
@@ -13,7 +13,7 @@ returns-in_err-check_length c =
     let constructor = c.args.constructor.now in
     let fault = c.in_err-check_length.field-0.0 in
     let count : ℕ = tuple_count (replicate constructor.arity c.args.members) in
-    let expected = c.count_tuples-expected.ensures.exact ∙ carried_few count c.requires.small in
+    let expected = c.count_tuples-expected.ensures.exact ∙ in_64_bits-few count c.requires.small in
     rw (p.1, p.2) (λ other.
     length_first constructor.name count (length c.args.entries.now)
     (first_over (λ i. c.args.members) 0 c.args.entries.now) fault
@@ -26,7 +26,7 @@ pub returns : goal.returns
 returns c =
     let constructor = c.args.constructor.now in
     let count : ℕ = tuple_count (replicate constructor.arity c.args.members) in
-    let expected = c.count_tuples-expected.ensures.exact ∙ carried_few count c.requires.small in
+    let expected = c.count_tuples-expected.ensures.exact ∙ in_64_bits-few count c.requires.small in
     ranges_last constructor.name count (length c.args.entries.now)
     (first_over (λ i. c.args.members) 0 c.args.entries.now) c.check_range.result
     (subst (λ n. length_faults n count (length c.args.entries.now) ≡ []) c.as_slice-name.ensures

@@ -6,7 +6,7 @@ use Rattle.tf_models.specs.Reading.{tables}
 use Rattle.model_tables.specs.Faults.{length_faults, range_faults, first_over}
 use Rattle.model_tables.specs.Checks.{first_fault, Checks}
 use Rattle.model_tables.specs.Typed.{symbol_entries, symbol_bounds}
-use Rattle.model_tables.proofs.Answered.{carried_few}
+use Rattle.model_tables.proofs.Answered.{in_64_bits-few}
 use Rattle.model_tables.proofs.ItemEnds.{length_first, length_right, ranges_last}
 use Rattle.model_tables.proofs.ends.check_symbol.Goals as goal
 
@@ -17,7 +17,8 @@ returns-in_err-check_length c =
     let symbol = c.args.symbol.now in
     let fault = c.in_err-check_length.field-0.0 in
     let t : TypedTables = tables c.args.structure.now in
-    let expected = c.in_ok-expected.ensures ∙ carried_few (symbol_entries t symbol) c.requires.small in
+    let expected =
+    c.in_ok-expected.ensures ∙ in_64_bits-few (symbol_entries t symbol) c.requires.small in
     rw (p.1, p.2) (λ other.
     length_first symbol.name (symbol_entries t symbol) (length c.args.entries.now)
     (first_over (λ i. slice_index (symbol_bounds t symbol) i) 0 c.args.entries.now) fault
@@ -31,13 +32,15 @@ first_out_of_range-over-requires-clause-long c =
     let t : TypedTables = tables c.args.structure.now in
     sym (length_right c.as_slice-name.result.now c.in_ok-expected.expected
     (length c.args.entries.now) c.in_ok-check_length.ensures)
-    ∙ c.in_ok-expected.ensures ∙ carried_few (symbol_entries t c.args.symbol.now) c.requires.small
+    ∙ c.in_ok-expected.ensures
+    ∙ in_64_bits-few (symbol_entries t c.args.symbol.now) c.requires.small
 
 pub returns : goal.returns
 returns c =
     let symbol = c.args.symbol.now in
     let t : TypedTables = tables c.args.structure.now in
-    let expected = c.in_ok-expected.ensures ∙ carried_few (symbol_entries t symbol) c.requires.small in
+    let expected =
+    c.in_ok-expected.ensures ∙ in_64_bits-few (symbol_entries t symbol) c.requires.small in
     ranges_last symbol.name (symbol_entries t symbol) (length c.args.entries.now)
     (first_over (λ i. slice_index (symbol_bounds t symbol) i) 0 c.args.entries.now)
     c.check_range.result

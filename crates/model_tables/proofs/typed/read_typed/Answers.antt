@@ -1,6 +1,6 @@
 use Rattle.std.proofs.Common.{◌≡◌, ◌≤◌, Ok, Err, sym, subst}
 use Rattle.std.proofs.lemmas.Result.{IfOk-weaker}
-use Rattle.model_tables.specs.Faults.{most_entries}
+use Rattle.enc_base.specs.Counts.{most_entries}
 use Rattle.model_tables.specs.Typed.{typed, typed_structure, IsTypedTable, structure_entries}
 use Rattle.model_tables.specs.Refusals.{IsRefused}
 use Rattle.model_tables.proofs.MemoryAlone.{memory_alone}

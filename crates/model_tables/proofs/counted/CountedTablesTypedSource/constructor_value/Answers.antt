@@ -1,7 +1,7 @@
 use Rattle.std.proofs.Common.{length, sym, ap, subst, ◌∙◌, ◌≤◌, arith, replicate, get_or, []}
 use Rattle.std.specs.Prelude.{slice_index}
 use Rattle.enc_base.specs.Tables.{EachBelow, tuple_count}
-use Rattle.tf_models.specs.Evaluation.{IsPlaced}
+use Rattle.enc_base.specs.Tuples.{IsPlaced}
 use Rattle.tf_models.proofs.FitTables.{list_read}
 use Rattle.model_tables.proofs.CountedFacts.{value_within, value_below, value_long, value_inside}
 use Rattle.model_tables.proofs.counted.CountedTablesTypedSource.constructor_value.Goals as goal

@@ -2,8 +2,9 @@ use Rattle.std.proofs.Common.{◌≡◌, ◌≤◌, [], Some, false, length, rep
 use Rattle.std.proofs.lemmas.Option.{slice_get_within}
 use Rattle.std.proofs.lemmas.Result.{err_from_is_err_and, on_ok_weaker}
 use Rattle.enc_base.specs.Tables.{tuple_count}
+use Rattle.enc_base.specs.Counts.{most_entries}
 use Rattle.model_tables.specs.declared.form.Kind.TheVariants as kind
-use Rattle.model_tables.specs.Faults.{most_entries, entry_faults, limit_faults_of}
+use Rattle.model_tables.specs.Faults.{entry_faults, limit_faults_of}
 use Rattle.model_tables.specs.Checks.{first_fault, Checks}
 use Rattle.model_tables.specs.Typed.{constructor_shape, entries_by_kind}
 use Rattle.model_tables.specs.Steps.{with_item}

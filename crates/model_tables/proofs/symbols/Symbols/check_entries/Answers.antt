@@ -1,14 +1,15 @@
 use Rattle.std.proofs.Common.{◌≡◌, ℕ, ◌≤◌, [], Some, Option, length, get_or, ap, ◌∙◌, subst, arith}
 use Rattle.std.proofs.lemmas.Option.{get_or_from_slice_get}
 use Rattle.std.proofs.lemmas.Result.{err_from_is_err_and}
+use Rattle.enc_base.specs.Counts.{most_entries, in_64_bits}
 use Rattle.fof_models.specs.declared.problem.FofSymbol.{FofSymbol}
 use Rattle.fof_models.specs.Structures.{values_below}
-use Rattle.model_tables.specs.Faults.{carried, most_entries, length_faults, range_faults, first_over}
+use Rattle.model_tables.specs.Faults.{length_faults, range_faults, first_over}
 use Rattle.model_tables.specs.Untyped.{symbol_entries, all_entries}
 use Rattle.model_tables.specs.Checks.{first_fault, Checks}
 use Rattle.model_tables.proofs.Checked.{first_fault-front}
 use Rattle.model_tables.proofs.ChecksJoined.{checks_behind}
-use Rattle.model_tables.proofs.Answered.{carried_few}
+use Rattle.model_tables.proofs.Answered.{in_64_bits-few}
 use Rattle.model_tables.proofs.SymbolSlots.{symbol_entries-few}
 use Rattle.model_tables.proofs.symbols.Symbols.check_entries.Goals as goal
 
@@ -23,8 +24,8 @@ returns-in_err-check_length c symbol kind at =
     omega (arith, c.requires.ready.few, symbol_entries-few size signature c.args.at symbol at) in
     let expected : c.count_tuples-expected.result ≡ symbol_entries size symbol =
     c.count_tuples-expected.ensures.exact
-    ∙ ap (λ (s : FofSymbol). carried (symbol_entries size s)) it
-    ∙ carried_few (symbol_entries size symbol) few in
+    ∙ ap (λ (s : FofSymbol). in_64_bits (symbol_entries size s)) it
+    ∙ in_64_bits-few (symbol_entries size symbol) few in
     rw (p.1, p.2) (λ other. first_fault-front
     (length_faults c.args.name.now (symbol_entries size symbol) (length c.args.entries.now))
     (range_faults c.args.name.now (first_over (λ i. values_below symbol size) 0 c.args.entries.now))
@@ -41,8 +42,8 @@ returns c symbol kind at =
     omega (arith, c.requires.ready.few, symbol_entries-few size signature c.args.at symbol at) in
     let expected : c.count_tuples-expected.result ≡ symbol_entries size symbol =
     c.count_tuples-expected.ensures.exact
-    ∙ ap (λ (s : FofSymbol). carried (symbol_entries size s)) it
-    ∙ carried_few (symbol_entries size symbol) few in
+    ∙ ap (λ (s : FofSymbol). in_64_bits (symbol_entries size s)) it
+    ∙ in_64_bits-few (symbol_entries size symbol) few in
     let first : c.first_over.result ≡ first_over (λ i. values_below symbol size) 0 c.args.entries.now =
     c.first_over.ensures 0
     ∙ ap (λ b. first_over (λ _. b) 0 c.args.entries.now)
