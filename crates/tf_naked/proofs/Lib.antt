@@ -1,3 +1,12 @@
 pub mod Covers
+pub mod Positions
+pub mod Flags
 pub mod Standing
 pub mod Naked
+pub mod Sorts
+pub mod BinderTypes
+pub mod Rows
+pub mod Binders
+pub mod Noted
+pub mod Reversed
+pub mod SortTypes

@@ -9,7 +9,9 @@ use Rattle.tf_core.specs.declared.nnf.Nnf.TheOpen.{Nnf-F}
 use Rattle.tf_core.specs.declared.nnf.Nnf.TheOpen as layer
 use Rattle.tf_core.specs.declared.nnf.Nnf.TheFolds.{fold-roll-Nnf, map-Nnf}
 use Rattle.tf_core.specs.Sorts.{joined}
-use Rattle.tf_naked.specs.Standing.{Kind, Universal, Existential, kind_of}
+use Rattle.tf_naked.specs.declared.position.Kind.{Kind}
+use Rattle.tf_naked.specs.declared.position.Kind.TheVariants.{Universal, Existential}
+use Rattle.tf_naked.specs.Standing.{kind_of}
 use Rattle.tf_naked.specs.Naked.{Equation, equations_of, equations_step}
 
 pub equations_of-roll : (x : Nnf-F Nnf) (kinds : List Kind) →

@@ -14,7 +14,10 @@ use Rattle.tf_core.specs.declared.nnf.Nnf.TheOpen.{Nnf-F}
 use Rattle.tf_core.specs.declared.nnf.Nnf.TheOpen as layer
 use Rattle.tf_core.specs.declared.nnf.Nnf.TheFolds.{fold-roll-Nnf, map-Nnf}
 use Rattle.tf_core.specs.declared.signature.Signature.{Signature}
-use Rattle.tf_naked.specs.Standing.{Position, Kind, Universal, Applied, kind_of, kind_step, Standing, stands_in_application, stands_in_side, standing, standing_step, stands, stands_step}
+use Rattle.tf_naked.specs.declared.position.Position.{Position}
+use Rattle.tf_naked.specs.declared.position.Kind.{Kind}
+use Rattle.tf_naked.specs.declared.position.Kind.TheVariants.{Universal, Applied}
+use Rattle.tf_naked.specs.Standing.{kind_of, kind_step, Standing, stands_in_application, stands_in_side, standing, standing_step, stands, stands_step}
 
 pub kind_of-variable : (kinds : List Kind) (i : ℕ) →
     kind_of kinds (term.Var i) ≡ get_or kinds i Universal

@@ -1,7 +1,8 @@
 -- Covers: the argument places that tell the types for a symbol's parameters. From an argument of a
 -- type that is a parameter itself, the type for that parameter can be read off.
-use Rattle.std.specs.Prelude.{ℕ, Bool, false, not, List, [], ◌∷◌, map, eqb, position, is_none, Option, Some, None}
-use Rattle.std.specs.List.{list_any, range_with_len}
+use Rattle.std.specs.Prelude.{ℕ, ◌<◌, Bool, false, not, List, [], ◌∷◌, map, eqb, position, is_none}
+use Rattle.std.specs.Prelude.{Option, Some, None}
+use Rattle.std.specs.List.{AllByRecursion, list_any, range_with_len}
 use Rattle.tf_core.specs.declared.ty.Ty.{Ty}
 use Rattle.tf_core.specs.declared.ty.Ty.TheOpen.{Ty-F}
 use Rattle.tf_core.specs.declared.ty.Ty.TheOpen as layer
@@ -44,7 +45,17 @@ first_places earlier (Some parameter ∷ parameters) =
 abbrev pub covers : Symbol → List Bool
 covers symbol = first_places [] (argument_parameters symbol)
 
--- the same of a symbol that may not be there
+-- a parameter below the count, where there is one
+abbrev pub IsOwn : ℕ → Option ℕ → Type 0
+IsOwn count None = Unit {0}
+IsOwn count (Some parameter) = parameter < count
+
+-- each parameter that the type of an argument is, is one of the symbol's own
+abbrev pub HasOwnParameters : Symbol → Type 0
+HasOwnParameters symbol =
+    AllByRecursion (IsOwn symbol.parameters) (argument_parameters symbol)
+
+-- the covers of a symbol that may not be there
 abbrev pub covers_of : Option Symbol → List Bool
 covers_of None = []
 covers_of (Some symbol) = covers symbol

@@ -1,5 +1,6 @@
 -- Naked places of a normal problem, and which of its sorts are free.
-use Rattle.std.specs.Prelude.{ℕ, ◌+◌, Bool, false, not, ◌&&◌, ◌||◌, List, [], ◌∷◌, ◌++◌, map, cond, slice_get, Option}
+use Rattle.std.specs.Prelude.{ℕ, ◌+◌, Bool, false, not, ◌&&◌, ◌||◌, List, [], ◌∷◌, ◌++◌, map, cond}
+use Rattle.std.specs.Prelude.{slice_get, Option}
 use Rattle.std.specs.List.{list_any}
 use Rattle.tf_core.specs.declared.ty.Ty.{Ty}
 use Rattle.tf_core.specs.declared.nnf.Nnf.{Nnf}
@@ -11,7 +12,9 @@ use Rattle.tf_core.specs.declared.normal.Normal.{Normal}
 use Rattle.tf_core.specs.Sorts.{joined, sorts}
 use Rattle.tf_core.specs.Types.{same_type}
 use Rattle.tf_naked.specs.declared.place.Place.{Place}
-use Rattle.tf_naked.specs.Standing.{Kind, Universal, Existential, is_universal, kind_of}
+use Rattle.tf_naked.specs.declared.position.Kind.{Kind}
+use Rattle.tf_naked.specs.declared.position.Kind.TheVariants.{Universal, Existential}
+use Rattle.tf_naked.specs.Standing.{is_universal, kind_of}
 
 -- an equation of a formula: its sign, the type of its sides, and what they are
 pub record Equation : Type 0 where

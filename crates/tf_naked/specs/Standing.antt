@@ -1,5 +1,6 @@
 -- Where the variables of a formula stand: at which positions, and under which binders.
-use Rattle.std.specs.Prelude.{ℕ, ◌+◌, Bool, true, false, ◌&&◌, ◌||◌, List, [], ◌∷◌, map, eqb, get_or, slice_get}
+use Rattle.std.specs.Prelude.{ℕ, ◌+◌, Bool, true, false, ◌&&◌, ◌||◌, List, [], ◌∷◌, map, eqb}
+use Rattle.std.specs.Prelude.{get_or, slice_get}
 use Rattle.std.specs.List.{list_any}
 use Rattle.tf_core.specs.declared.term.Term.{Term}
 use Rattle.tf_core.specs.declared.term.Term.TheOpen.{Term-F}
@@ -10,13 +11,11 @@ use Rattle.tf_core.specs.declared.nnf.Nnf.TheOpen.{Nnf-F}
 use Rattle.tf_core.specs.declared.nnf.Nnf.TheOpen as layer
 use Rattle.tf_core.specs.declared.nnf.Nnf.TheFolds.{fold-Nnf}
 use Rattle.tf_core.specs.declared.signature.Signature.{Signature}
+use Rattle.tf_naked.specs.declared.position.Position.{Position}
+use Rattle.tf_naked.specs.declared.position.Position.TheVariants.{Argument, Side}
+use Rattle.tf_naked.specs.declared.position.Kind.{Kind}
+use Rattle.tf_naked.specs.declared.position.Kind.TheVariants.{Universal, Existential, Applied}
 use Rattle.tf_naked.specs.Covers.{covers_of}
-
--- The position of a term: an argument place, which is a cover or not, or a side of a positive or a
--- negative equation.
-pub data Position : Type 0 where
-  Argument : Bool → Position
-  Side : Bool → Position
 
 -- a cover, or a side of a positive equation
 abbrev pub is_covering : Position → Bool
@@ -27,12 +26,6 @@ is_covering (Side positive) = positive
 abbrev pub is_positive_side : Position → Bool
 is_positive_side (Argument cover) = false
 is_positive_side (Side positive) = positive
-
--- What a term is: a variable of a universal or of an existential binder, or an application.
-pub data Kind : Type 0 where
-  Universal : Kind
-  Existential : Kind
-  Applied : Kind
 
 abbrev pub is_variable : Kind → Bool
 is_variable Universal = true
