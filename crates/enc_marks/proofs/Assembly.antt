@@ -6,7 +6,7 @@ use Rattle.fof_models.specs.declared.problem.FofFormula.{FofFormula}
 use Rattle.enc_marks.specs.declared.mark.Mark.{Mark}
 use Rattle.enc_marks.specs.declared.encoded.Encoded.{Encoded}
 use Rattle.enc_marks.specs.Choices.{Choices}
-use Rattle.enc_marks.specs.Flags.{renumbered_by}
+use Rattle.enc_marks.specs.Calls.Flags.{renumbered_by}
 use Rattle.enc_marks.specs.Occurrence.{count_below, passing}
 use Rattle.enc_marks.specs.Encoded.{MarkedSymbol, all_marks, translation, is_present, encoded}
 

@@ -6,9 +6,9 @@ use Rattle.fof_models.specs.declared.formula.Fof.{Fof}
 use Rattle.fof_models.specs.declared.formula.Fof.TheVariants.{ForAll}
 use Rattle.enc_marks.specs.declared.open_formula.OpenFormula.{OpenFormula}
 use Rattle.enc_marks.specs.Axioms.{closed}
-use Rattle.enc_marks.specs.Closures.{closure_of, closures}
+use Rattle.enc_marks.specs.Calls.Closures.{closure_of, closures}
 use Rattle.enc_marks.specs.Encoded.{is_present}
-use Rattle.enc_marks.specs.Flags.{renumbered_by}
+use Rattle.enc_marks.specs.Calls.Flags.{renumbered_by}
 use Rattle.enc_marks.specs.Occurrence.{occurs, renumber}
 use Rattle.enc_marks.proofs.Occurrence.{occurs-for_all, renumber-for_all}
 

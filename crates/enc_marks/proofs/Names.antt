@@ -1,4 +1,4 @@
--- The equation of the name of a type.
+-- The equations of the name of a type.
 use Rattle.std.specs.Prelude.{ℕ, ◌≡◌, List, [], ◌∷◌, ◌++◌, map, codes, flat_map, slice_get}
 use Rattle.std.proofs.Common.{refl, sym, ap, ◌∙◌}
 use Rattle.tf_core.specs.declared.ty.Ty.{Ty}
@@ -15,6 +15,12 @@ behind : (normal : Normal) (arguments : List Ty) →
 behind normal [] = refl
 behind normal (argument ∷ arguments) =
     ap (λ names. (codes "_" ++ flat_name normal argument) ++ names) (behind normal arguments)
+
+pub flat_name-variable : (normal : Normal) (i : ℕ) → flat_name normal (type.Var i) ≡ []
+unfolding flat_name
+flat_name-variable normal i =
+    ap (flat_name normal) (sym (type.rolls-Var i))
+    ∙ fold-roll-Ty (List ℕ) (flat_name_step normal) (layer.Var i)
 
 pub flat_name-apply : (normal : Normal) (c : ℕ) (arguments : List Ty) →
     flat_name normal (type.Apply c arguments)

@@ -10,7 +10,7 @@ use Rattle.enc_marks.specs.declared.marked.Marked.{Marked}
 use Rattle.enc_marks.specs.Choices.{Choices}
 use Rattle.enc_marks.specs.Occurrence.{passing}
 use Rattle.enc_marks.specs.Encoded.{MarkedSymbol, marked_symbol, marked_symbols, marked_constructor, marked_constructors}
-use Rattle.enc_marks.specs.Marked.{Holds, MarksAdded}
+use Rattle.enc_marks.specs.Calls.Marked.{Holds, MarksAdded}
 
 pub append-nothing : {A : Type 0} (items : List A) → items ++ [] ≡ items
 append-nothing [] = refl

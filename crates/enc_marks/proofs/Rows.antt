@@ -10,7 +10,8 @@ use Rattle.fof_models.specs.declared.formula.FofTerm.TheVariants as term
 use Rattle.fof_models.specs.declared.formula.Fof.{Fof}
 use Rattle.fof_models.specs.declared.formula.Fof.TheVariants as fof
 use Rattle.tf_naked.specs.Covers.{covers, kept_parameters}
-use Rattle.tf_naked.specs.Standing.{Kind, Universal}
+use Rattle.tf_naked.specs.declared.position.Kind.{Kind}
+use Rattle.tf_naked.specs.declared.position.Kind.TheVariants.{Universal}
 use Rattle.tf_naked.proofs.Covers.{parameter_of-variable, parameter_of-apply}
 use Rattle.enc_marks.specs.Schemes.{guards, tags}
 use Rattle.tf_core.specs.declared.signature.Signature.{Signature}

@@ -1,26 +1,33 @@
--- The encoded problem of a sound normal problem is sound.
+-- The encoded problem of a sound normal problem is well formed and within the bounds of counting.
 use Rattle.std.specs.Prelude.{ℕ, ◌+◌, ◌^◌, ◌<◌, ◌≡◌, Bool, true, List, [], ◌∷◌, ◌++◌, map, length, slice_get, IsTrue}
 use Rattle.std.specs.List.{AllByRecursion}
 use Rattle.std.specs.Option.{option_map}
-use Rattle.std.proofs.Common.{refl, sym, ap, ◌∙◌, subst, arith}
+use Rattle.std.proofs.Common.{refl, sym, ap, ◌∙◌, arith}
 use Rattle.std.proofs.lemmas.Bool.{or_left, or_right}
 use Rattle.std.proofs.lemmas.List.{length-map, length-append}
 use Rattle.std.proofs.lemmas.Option.{slice_get-map}
+use Rattle.tf_core.specs.declared.ty.Ty.{Ty}
 use Rattle.tf_core.specs.declared.signature.Constructor.{Constructor}
 use Rattle.tf_core.specs.declared.signature.Symbol.{Symbol}
 use Rattle.tf_core.specs.declared.normal.Normal.{Normal}
-use Rattle.tf_core.specs.Sound.{IsBounded, IsSoundBelow}
+use Rattle.tf_core.specs.Sorts.{sorts}
+use Rattle.tf_core.specs.Sound.{IsBounded, IsSoundNormal}
 use Rattle.fof_models.specs.declared.problem.FofSymbol.{FofSymbol}
 use Rattle.fof_models.specs.declared.problem.FofFormula.{FofFormula}
 use Rattle.fof_models.specs.Sound.{IsSoundFormula}
+use Rattle.enc_marks.specs.declared.choices.Marking.{Marking}
+use Rattle.enc_marks.specs.declared.choices.Marking.TheVariants.{ByType, BySort}
+use Rattle.enc_marks.specs.declared.choices.Binding.{Binding}
 use Rattle.enc_marks.specs.Choices.{Choices}
 use Rattle.enc_marks.specs.Occurrence.{count_below, passing}
-use Rattle.enc_marks.specs.Encoded.{MarkedSymbol, marked_symbols, marked_constructors, own_marks, all_marks, is_present, renumbered, translation, encoded}
-use Rattle.enc_marks.specs.Laws.{IsByType, TranslationsAreSound}
-use Rattle.enc_marks.proofs.SoundMarks.{slice_get-passing, length-passing, all-passing, length-marked_symbols, length-marked_constructors}
+use Rattle.enc_marks.specs.Encoded.{MarkedSymbol, marked_symbols, marked_constructors, sort_mark, sort_marks, own_marks, all_marks, is_present, renumbered, translation, encoded}
+use Rattle.enc_marks.specs.Laws.{Fit, TranslationsAreWellFormed}
+use Rattle.enc_marks.proofs.SoundMarks.{slice_get-passing, length-passing, all-passing, sort_marks-numbered, length-marked_symbols, length-marked_constructors}
+use Rattle.enc_marks.proofs.Passing.{length-numbered}
 use Rattle.enc_marks.proofs.SoundRenumbered.{has_pairs-renumber, binder_count-renumber, is_formula-renumber}
 use Rattle.enc_marks.proofs.SoundTypes.{count_by-few}
-use Rattle.enc_marks.proofs.SoundAxioms.{all-append, translation-sound}
+use Rattle.enc_marks.proofs.StatedFormulas.{all-append}
+use Rattle.enc_marks.proofs.SoundAxioms.{translation-sound}
 
 -- ---- formulas
 
@@ -71,19 +78,19 @@ all-symbols : (marks : List MarkedSymbol) → AllByRecursion IsSmall marks →
 all-symbols [] small = tt
 all-symbols (one ∷ marks) small = (small.0, all-symbols marks small.1)
 
-symbols-small : (c : Choices) → IsByType c → (f : ℕ) (symbols : List Symbol) →
+symbols-small : (c : Choices) (normal : Normal) → Fit c normal → (f : ℕ) (symbols : List Symbol) →
     AllByRecursion (IsBounded (2 ^ 28)) symbols →
     AllByRecursion IsSmall (marked_symbols c f symbols)
-symbols-small c by_type f [] bounded = tt
-symbols-small c by_type f (symbol ∷ symbols) bounded = (
+symbols-small c normal fit f [] bounded = tt
+symbols-small c normal fit f (symbol ∷ symbols) bounded = (
   omega (
     arith,
     count_by-few (c.keeps symbol),
-    by_type.keeps symbol,
+    fit.keeps symbol,
     bounded.0.parameters,
     bounded.0.arguments,
   ),
-  symbols-small c by_type (f + 1) symbols bounded.1,
+  symbols-small c normal fit (f + 1) symbols bounded.1,
 )
 
 constructors-small : (normal : Normal) (i : ℕ) (constructors : List Constructor) →
@@ -93,40 +100,63 @@ constructors-small normal i [] bounded = tt
 constructors-small normal i (constructor ∷ constructors) bounded =
     (omega (arith, bounded.0), constructors-small normal (i + 1) constructors bounded.1)
 
-module _ (c : Choices) (normal : Normal) (by_type : IsByType c)
-    (bounded : IsSoundBelow (2 ^ 28) normal.signature) where
+-- the guard or tag of all types, or those of the sorts
+
+sort_marks-small : (normal : Normal) (binding : Binding) (s : ℕ) (types : List Ty) →
+    AllByRecursion IsSmall (sort_marks normal binding s types)
+sort_marks-small normal binding s [] = tt
+sort_marks-small normal binding s (ty ∷ types) =
+    let one : 1 < 2 ^ 30 = omega arith in (one, sort_marks-small normal binding (s + 1) types)
+
+own_marks-small : (normal : Normal) (binding : Binding) (marking : Marking) →
+    AllByRecursion IsSmall (own_marks normal binding marking)
+own_marks-small normal binding ByType = let two : 2 < 2 ^ 30 = omega arith in (two, tt)
+own_marks-small normal binding BySort = sort_marks-small normal binding 0 (sorts normal)
+
+module _ (c : Choices) (normal : Normal) (fit : Fit c normal) (sound : IsSoundNormal normal) where
+  own_marks-few : length (own_marks normal c.binding c.marking) < 2 ^ 28
+  own_marks-few = by c.marking refl
+    where
+      by : (marking : Marking) → c.marking ≡ marking →
+          length (own_marks normal c.binding marking) < 2 ^ 28
+      by ByType is = omega arith
+      by BySort is =
+          omega (
+            arith,
+            ap (λ (list : List MarkedSymbol). length list)
+                (sort_marks-numbered normal c.binding 0 (sorts normal)),
+            length-numbered (sort_mark normal c.binding) 0 (sorts normal),
+            sound.sort_count (fit.monomorphic is),
+          )
+
   marks-small : AllByRecursion IsSmall (all_marks c normal)
   marks-small =
       let symbols = marked_symbols c 0 normal.signature.symbols in
       let constructors = marked_constructors normal 0 normal.signature.constructors in
-      let two : 2 < 2 ^ 30 = omega arith in
       all-append IsSmall symbols (constructors ++ own_marks normal c.binding c.marking)
-      (symbols-small c by_type 0 normal.signature.symbols bounded.symbols)
+      (symbols-small c normal fit 0 normal.signature.symbols sound.signature.symbols)
       (all-append IsSmall constructors (own_marks normal c.binding c.marking)
-      (constructors-small normal 0 normal.signature.constructors bounded.arities)
-      (subst (λ marking. AllByRecursion IsSmall (own_marks normal c.binding marking))
-      (sym by_type.marking) (two, tt)))
+      (constructors-small normal 0 normal.signature.constructors sound.signature.arities)
+      (own_marks-small normal c.binding c.marking))
 
   marks-few : length (all_marks c normal) < 2 ^ 30
   marks-few =
       let symbols = marked_symbols c 0 normal.signature.symbols in
       let constructors = marked_constructors normal 0 normal.signature.constructors in
-      let one : length (own_marks normal c.binding c.marking) ≡ 1 =
-      ap (λ marking. length (own_marks normal c.binding marking)) by_type.marking in
       omega (
         arith,
         length-append symbols (constructors ++ own_marks normal c.binding c.marking),
         length-append constructors (own_marks normal c.binding c.marking),
         length-marked_symbols c normal,
         length-marked_constructors c normal,
-        one,
-        bounded.symbol_count,
-        bounded.constructor_count,
+        own_marks-few,
+        sound.signature.symbol_count,
+        sound.signature.constructor_count,
       )
 
-pub translations_sound : TranslationsAreSound
+pub translations_well_formed : TranslationsAreWellFormed
 unfolding encoded
-translations_sound c normal by_type sound =
+translations_well_formed c normal fit sound =
     let formulas = translation c normal in
     let present = is_present formulas in
     let marks = all_marks c normal in
@@ -136,12 +166,12 @@ translations_sound c normal by_type sound =
         arith,
         length-map (passing present 0 marks) symbol_of,
         length-passing present 0 marks,
-        marks-few c normal by_type sound.signature,
+        marks-few c normal fit sound,
       );
       arities = all-symbols (passing present 0 marks)
-          (all-passing IsSmall present 0 marks (marks-small c normal by_type sound.signature));
+          (all-passing IsSmall present 0 marks (marks-small c normal fit sound));
       formulas = renumbered-sound present (map symbol_of marks)
           (map symbol_of (passing present 0 marks)) formulas
           (λ m is. passing-stands present marks m is)
-          (translation-sound c normal by_type sound.signature.typed sound.signature sound.formulas);
+          (translation-sound c normal fit sound.signature.typed sound.signature sound.formulas);
     }

@@ -1,5 +1,5 @@
 -- What a translation states are formulas over all marked symbols, under no binders, and with few.
-use Rattle.std.specs.Prelude.{ℕ, zero, suc, ◌+◌, ◌-◌, ◌^◌, ◌<◌, ◌≤◌, ◌≡◌, Bool, true, false, ◌&&◌, List, [], ◌∷◌, ◌++◌, map, length, cond, leb, sum, is_none, slice_get, Option, Some, None}
+use Rattle.std.specs.Prelude.{ℕ, zero, suc, ◌+◌, ◌-◌, ◌^◌, ◌<◌, ◌≤◌, ◌≡◌, Bool, true, false, List, [], ◌∷◌, map, length, cond, leb, sum, is_none, slice_get, Some}
 use Rattle.std.specs.List.{AllByRecursion, list_all, range_with_len}
 use Rattle.std.proofs.Common.{refl, sym, ap, ◌∙◌, subst, arith}
 use Rattle.std.proofs.lemmas.Bool.{and_from, le-leb, lt-ltb}
@@ -11,11 +11,11 @@ use Rattle.tf_core.specs.declared.ty.Ty.TheVariants as type
 use Rattle.tf_core.specs.declared.signature.Symbol.{Symbol}
 use Rattle.tf_core.specs.declared.normal.NormalFormula.{NormalFormula}
 use Rattle.tf_core.specs.declared.normal.Normal.{Normal}
-use Rattle.tf_core.specs.Typing.{IsType, type_variable, AreTypes, no_types, more_types, IsResult, IsSymbol, IsSignature}
+use Rattle.tf_core.specs.Sorts.{binder_types, sorts}
+use Rattle.tf_core.specs.Typing.{type_variable, IsResult, IsSymbol, IsSignature, IsNnf}
 use Rattle.tf_core.specs.Counts.{normal_has_pairs, normal_sum}
 use Rattle.tf_core.specs.Sound.{IsBounded, IsSoundBelow}
 use Rattle.tf_core.specs.Sound as source
-use Rattle.fof_models.specs.declared.formula.FofTerm.{FofTerm}
 use Rattle.fof_models.specs.declared.formula.FofTerm.TheVariants as term
 use Rattle.fof_models.specs.declared.formula.Fof.{Fof}
 use Rattle.fof_models.specs.declared.formula.Fof.TheVariants as fof
@@ -24,16 +24,23 @@ use Rattle.fof_models.specs.declared.problem.FofFormula.{FofFormula}
 use Rattle.fof_models.specs.Sound.{IsSoundFormula, is_term, is_formula, has_pairs, binder_count}
 use Rattle.fof_models.proofs.Sound.{is_term-variable, is_term-apply, is_formula-and, is_formula-for_all, is_formula-exists, has_pairs-and, has_pairs-for_all, has_pairs-exists, binder_count-and, binder_count-for_all, binder_count-exists}
 use Rattle.tf_naked.specs.Covers.{covers}
-use Rattle.enc_marks.specs.Choices.{Choices, ByType, Marking, Binding, ByGuard, ByTag}
+use Rattle.tf_naked.specs.SortLaws.{AreSorts}
+use Rattle.tf_naked.proofs.Sorts.{sorts_listed, argument_sorts, result_sort, binder_sorts}
+use Rattle.enc_marks.specs.declared.choices.Marking.TheVariants.{ByType, BySort}
+use Rattle.enc_marks.specs.declared.choices.Binding.{Binding}
+use Rattle.enc_marks.specs.declared.choices.Binding.TheVariants.{ByGuard, ByTag}
+use Rattle.enc_marks.specs.Choices.{Choices}
 use Rattle.enc_marks.specs.Translation.{Bare, tag, bind, formula}
-use Rattle.enc_marks.specs.Axioms.{closed, under, own_types, own_variables, closed_formula, premises, own_application, typing_axiom, last_axiom}
-use Rattle.enc_marks.specs.Names.{typing_name, last_name}
-use Rattle.enc_marks.specs.Encoded.{stated, axiom_named, typing_of, typing_axioms, type_axioms, last_axioms, translation}
-use Rattle.enc_marks.specs.Laws.{IsByType}
+use Rattle.enc_marks.specs.Axioms.{closed, under, own_types, own_variables, premises, own_application, typing_axiom, last_axiom}
+use Rattle.enc_marks.specs.Names.{typing_name, last_name, sort_last_name}
+use Rattle.enc_marks.specs.Encoded.{stated, axiom_named, translation}
+use Rattle.enc_marks.specs.Laws.{Fit}
 use Rattle.enc_marks.proofs.Guarded.{length-own_variables}
+use Rattle.enc_marks.proofs.StatedFormulas.{all-both, translation-all}
+use Rattle.enc_marks.proofs.OwnMarks.{MarkedBy, HasMark, HaveMarks, type_marked, types_marked}
 use Rattle.enc_marks.proofs.SoundTypes.{AreTypes-own, all_at}
 use Rattle.enc_marks.proofs.SoundTerms.{numbers, marked, tag-sound, applied-sound}
-use Rattle.enc_marks.proofs.SoundFormulas.{IsMade, made_same, implies-made, bind-made, formula-made}
+use Rattle.enc_marks.proofs.SoundFormulas.{IsMade, implies-made, bind-made, formula-made}
 
 -- ---- binders, premises
 
@@ -112,16 +119,10 @@ under-made signature (premise ∷ second ∷ others) conclusion depth list made 
     })
     made
 
-pub all-append : {A : Type 0} (P : A → Type 0) (items others : List A) → AllByRecursion P items →
-    AllByRecursion P others → AllByRecursion P (items ++ others)
-all-append P [] others first second = second
-all-append P (item ∷ items) others first second =
-    (first.0, all-append P items others first.1 second)
-
-module _ (c : Choices) (normal : Normal) (by_type : IsByType c)
+module _ (c : Choices) (normal : Normal) (fit : Fit c normal)
     (typed : IsSignature normal.signature) where
   abbrev over : List FofSymbol
-  over = marked c normal by_type typed
+  over = marked c normal fit typed
 
   variable-sound : (i depth : ℕ) → i < depth → is_term over (term.Var i) depth ≡ true
   variable-sound i depth within = is_term-variable over i depth ∙ lt-ltb i depth within
@@ -137,21 +138,20 @@ module _ (c : Choices) (normal : Normal) (by_type : IsByType c)
   )
 
   premises-made : (variables depth : ℕ) → variables ≤ depth → (tests : List Bool)
-      (types : List Ty) (count : ℕ) → AreTypes normal.signature variables types →
+      (types : List Ty) (count : ℕ) → HaveMarks c normal variables types →
       length types ≤ count → count ≤ depth →
       AllByRecursion (λ q. IsMade over q depth true 0)
-      (premises c (numbers c normal by_type typed) normal.signature depth tests types count)
-  premises-made variables depth fits [] types count formed few within = tt
-  premises-made variables depth fits (test ∷ tests) types count no_types few within = tt
-  premises-made variables depth fits (test ∷ tests) types count
-      (more_types ty others first rest) few within =
-      let k = numbers c normal by_type typed in
+      (premises c (numbers c normal fit typed) normal.signature depth tests types count)
+  premises-made variables depth fits [] types count have few within = tt
+  premises-made variables depth fits (test ∷ tests) [] count have few within = tt
+  premises-made variables depth fits (test ∷ tests) (ty ∷ others) count have few within =
+      let k = numbers c normal fit typed in
       by (c.premise test ty)
       (bind c k normal.signature depth ty (term.Var (count - 1)))
       (premises c k normal.signature depth tests others (count - 1))
-      (bind-made c normal by_type typed variables depth fits ty (term.Var (count - 1)) first
+      (bind-made c normal fit typed variables depth fits ty (term.Var (count - 1)) have.0
       (variable-sound (count - 1) depth (omega (arith, few, within))))
-      (premises-made variables depth fits tests others (count - 1) rest (omega (arith, few))
+      (premises-made variables depth fits tests others (count - 1) have.1 (omega (arith, few))
       (omega (arith, within)))
     where
       by : (b : Bool) (q : Fof) (list : List Fof) → IsMade over q depth true 0 →
@@ -160,35 +160,49 @@ module _ (c : Choices) (normal : Normal) (by_type : IsByType c)
       by true q list made are = (made, are)
       by false q list made are = are
 
+  -- a symbol's types have guards or tags
+  arguments-marked : (f : ℕ) (symbol : Symbol) →
+      slice_get normal.signature.symbols f ≡ Some symbol →
+      HaveMarks c normal symbol.parameters symbol.arguments
+  arguments-marked f symbol at =
+      let is = all_at (IsSymbol normal.signature) normal.signature.symbols f symbol typed at in
+      types_marked c.marking normal symbol.parameters symbol.arguments is.arguments
+      (λ by_sort. argument_sorts normal f symbol at)
+
+  result-marked : (f : ℕ) (symbol : Symbol) (result : Ty) →
+      slice_get normal.signature.symbols f ≡ Some symbol → symbol.result ≡ Some result →
+      HasMark c normal symbol.parameters result
+  result-marked f symbol result at gives =
+      let is = all_at (IsSymbol normal.signature) normal.signature.symbols f symbol typed at in
+      type_marked c.marking normal symbol.parameters result
+      (subst (IsResult normal.signature symbol.parameters) gives is.result)
+      (λ by_sort. result_sort normal f symbol result at gives)
+
   own_application-sound : (f : ℕ) (symbol : Symbol) (result : Ty) (depth : ℕ) →
       slice_get normal.signature.symbols f ≡ Some symbol → symbol.result ≡ Some result →
       symbol.parameters + length symbol.arguments ≡ depth →
-      is_term over (own_application c (numbers c normal by_type typed) normal.signature depth f symbol)
+      is_term over (own_application c (numbers c normal fit typed) normal.signature depth f symbol)
       depth ≡ true
   own_application-sound f symbol result depth at gives deep =
-      let is : IsSymbol normal.signature symbol =
-      all_at (IsSymbol normal.signature) normal.signature.symbols f symbol typed at in
       is_term-apply over f _ depth
-      ∙ applied-sound c normal by_type typed symbol.parameters depth (omega (arith, deep)) f symbol
+      ∙ applied-sound c normal fit typed symbol.parameters depth (omega (arith, deep)) f symbol
       false (own_types symbol) symbol.arguments (own_variables (length symbol.arguments)) at
       (ap is_none gives)
       (AreTypes-own normal.signature symbol.parameters 0 symbol.parameters (omega arith))
       (length-map (range_with_len 0 symbol.parameters) type.Var
       ∙ length-range_with_len 0 symbol.parameters)
-      is.arguments refl (length-own_variables (length symbol.arguments))
+      (arguments-marked f symbol at) refl (length-own_variables (length symbol.arguments))
       (own_variables-sound (length symbol.arguments) depth (omega (arith, deep)))
 
   typing_axiom-made : (f : ℕ) (symbol : Symbol) (result : Ty) →
       slice_get normal.signature.symbols f ≡ Some symbol → symbol.result ≡ Some result →
       IsMade over
-      (typing_axiom c (numbers c normal by_type typed) normal.signature f symbol result) 0 true
+      (typing_axiom c (numbers c normal fit typed) normal.signature f symbol result) 0 true
       (length symbol.arguments + symbol.parameters)
   typing_axiom-made f symbol result at gives =
-      let k = numbers c normal by_type typed in
+      let k = numbers c normal fit typed in
       let count = length symbol.arguments in
       let depth = symbol.parameters + count in
-      let is : IsSymbol normal.signature symbol =
-      all_at (IsSymbol normal.signature) normal.signature.symbols f symbol typed at in
       let body = under (premises c k normal.signature depth (covers symbol) symbol.arguments count)
       (bind c k normal.signature depth result (own_application c k normal.signature depth f symbol))
       in
@@ -202,125 +216,147 @@ module _ (c : Choices) (normal : Normal) (by_type : IsByType c)
       (bind c k normal.signature depth result (own_application c k normal.signature depth f symbol))
       depth
       (premises-made symbol.parameters depth (omega arith) (covers symbol) symbol.arguments count
-      is.arguments (omega arith) (omega arith))
-      (bind-made c normal by_type typed symbol.parameters depth (omega arith) result
+      (arguments-marked f symbol at) (omega arith) (omega arith))
+      (bind-made c normal fit typed symbol.parameters depth (omega arith) result
       (own_application c k normal.signature depth f symbol)
-      (subst (IsResult normal.signature symbol.parameters) gives is.result)
+      (result-marked f symbol result at gives)
       (own_application-sound f symbol result depth at gives refl)))))
 
-  -- ---- the last axiom
+  -- ---- the last axioms
 
-  last_axiom-made : (binding : Binding) → c.binding ≡ binding →
-      IsMade over (fof.ForAll (last_axiom c (numbers c normal by_type typed) normal.signature
-      binding 1 (type.Var 0))) 0 true 2
-  last_axiom-made ByGuard is =
-      let k = numbers c normal by_type typed in
-      let inner = bind c k normal.signature 2 (type.Var 0) (term.Var 0) in
-      for_all-alone over (fof.Exists inner) 0 true 1
-      (exists-alone over inner 1 true 0
-      (bind-made c normal by_type typed 1 2 (omega arith) (type.Var 0) (term.Var 0)
-      (type_variable 0 (omega arith)) (variable-sound 0 2 (omega arith))))
-  last_axiom-made ByTag is =
-      let k = numbers c normal by_type typed in
-      let tagged = tag c k normal.signature 2 (type.Var 0) (term.Var 0) in
-      let inner = bind c k normal.signature 2 (type.Var 0) tagged in
-      for_all-alone over (fof.ForAll inner) 0 true 1
-      (for_all-alone over inner 1 true 0
-      (bind-made c normal by_type typed 1 2 (omega arith) (type.Var 0) tagged
-      (type_variable 0 (omega arith))
-      (tag-sound c normal by_type typed 1 2 (omega arith) is (type.Var 0) (term.Var 0)
-      (type_variable 0 (omega arith)) (variable-sound 0 2 (omega arith)))))
+  last_axiom-made : (binding : Binding) → c.binding ≡ binding → (variables : ℕ) (ty : Ty) →
+      HasMark c normal variables ty →
+      IsMade over (last_axiom c (numbers c normal fit typed) normal.signature binding variables ty)
+      variables true 1
+  last_axiom-made ByGuard is variables ty has =
+      let k = numbers c normal fit typed in
+      let inner = bind c k normal.signature (variables + 1) ty (term.Var 0) in
+      exists-alone over inner variables true 0
+      (bind-made c normal fit typed variables (variables + 1) (omega arith) ty (term.Var 0) has
+      (variable-sound 0 (variables + 1) (omega arith)))
+  last_axiom-made ByTag is variables ty has =
+      let k = numbers c normal fit typed in
+      let tagged = tag c k normal.signature (variables + 1) ty (term.Var 0) in
+      let inner = bind c k normal.signature (variables + 1) ty tagged in
+      for_all-alone over inner variables true 0
+      (bind-made c normal fit typed variables (variables + 1) (omega arith) ty tagged has
+      (tag-sound c normal fit typed variables (variables + 1) (omega arith) is ty (term.Var 0) has
+      (variable-sound 0 (variables + 1) (omega arith))))
+
+  -- that of all types
+  type_axiom-made : c.marking ≡ ByType →
+      IsMade over (fof.ForAll (last_axiom c (numbers c normal fit typed) normal.signature
+      c.binding 1 (type.Var 0))) 0 true 2
+  type_axiom-made by_type =
+      for_all-alone over (last_axiom c (numbers c normal fit typed) normal.signature c.binding 1
+      (type.Var 0)) 0 true 1
+      (last_axiom-made c.binding refl 1 (type.Var 0)
+      (subst (λ marking. MarkedBy marking normal 1 (type.Var 0)) (sym by_type)
+      (type_variable 0 (omega arith))))
+
+  -- those of sorts
+  sort_axioms-made : c.marking ≡ BySort →
+      AllByRecursion (λ ty. IsMade over
+      (last_axiom c (numbers c normal fit typed) normal.signature c.binding 0 ty) 0 true 1)
+      (sorts normal)
+  sort_axioms-made by_sort = each (sorts normal) (sorts_listed normal)
+    where
+      each : (types : List Ty) → AreSorts normal types →
+          AllByRecursion (λ ty. IsMade over
+          (last_axiom c (numbers c normal fit typed) normal.signature c.binding 0 ty) 0 true 1)
+          types
+      each [] sorted = tt
+      each (ty ∷ types) sorted = (
+        last_axiom-made c.binding refl 0 ty
+            (subst (λ marking. MarkedBy marking normal 0 ty) (sym by_sort) sorted.0),
+        each types sorted.1,
+      )
 
   -- ---- all that is stated
 
-  IsSoundFormula-made : (formula : FofFormula) (binders : ℕ) → binders < 2 ^ 30 →
-      IsMade over formula.body 0 true binders → IsSoundFormula over formula
-  IsSoundFormula-made formula binders few made = record {
+  stated-made : (p : NormalFormula) → IsNnf normal.signature p.type_variables [] p.body →
+      AreSorts normal (binder_types p.body) →
+      IsMade over (stated c normal p).body 0 (normal_has_pairs p.body)
+      (normal_sum 1 0 p.body + p.type_variables)
+  stated-made p formed sorted =
+      let k = numbers c normal fit typed in
+      closed-made over p.type_variables
+      (formula c k normal.signature p.body p.type_variables []) 0 p.type_variables
+      (normal_has_pairs p.body) (normal_sum 1 0 p.body) (omega arith)
+      (formula-made c normal fit typed p.type_variables [] [] p.type_variables (omega arith) tt
+      p.body formed (λ by_sort. sorted))
+
+  abbrev IsFormed : FofFormula → Type 0
+  IsFormed formula = is_formula over formula.body 0 ≡ true
+
+  -- the translation over all numbers is well formed
+  pub translation-formed :
+      AllByRecursion (λ (p : NormalFormula). IsNnf normal.signature p.type_variables [] p.body)
+      normal.formulas → AllByRecursion IsFormed (translation c normal)
+  translation-formed formed =
+      translation-all c normal IsFormed
+      (all-both (λ (p : NormalFormula). IsNnf normal.signature p.type_variables [] p.body)
+      (λ (p : NormalFormula). AreSorts normal (binder_types p.body))
+      (λ (p : NormalFormula). IsFormed (stated c normal p)) normal.formulas
+      (λ p is sorted. (stated-made p is sorted).formed) formed (binder_sorts normal))
+      (λ f symbol result at gives. (typing_axiom-made f symbol result at gives).formed)
+      (λ by_type. (type_axiom-made by_type).formed)
+      (λ by_sort. each (sorts normal) (sort_axioms-made by_sort))
+    where
+      each : (types : List Ty) →
+          AllByRecursion (λ ty. IsMade over
+          (last_axiom c (numbers c normal fit typed) normal.signature c.binding 0 ty) 0 true 1)
+          types →
+          AllByRecursion (λ ty. is_formula over
+          (last_axiom c (numbers c normal fit typed) normal.signature c.binding 0 ty) 0 ≡ true)
+          types
+      each [] made = tt
+      each (ty ∷ types) made = (made.0.formed, each types made.1)
+
+  IsSoundFormula-made : (formula : FofFormula) (pairs : Bool) (binders : ℕ) → pairs ≡ true →
+      binders < 2 ^ 30 → IsMade over formula.body 0 pairs binders → IsSoundFormula over formula
+  IsSoundFormula-made formula pairs binders has few made = record {
     typed = made.formed;
-    pairs = made.has_them;
+    pairs = made.has_them ∙ has;
     binders = omega (arith, few, made.count);
   }
 
-  stated-sound : (formulas : List NormalFormula) →
-      AllByRecursion (source.IsSoundFormula normal.signature) formulas →
-      AllByRecursion (IsSoundFormula over) (map (stated c normal) formulas)
-  stated-sound [] sound = tt
-  stated-sound (p ∷ formulas) sound =
-      let k = numbers c normal by_type typed in
-      let types = p.type_variables in
-      let inner = formula-made c normal by_type typed types [] [] types (omega arith) p.body
-      sound.0.typed in
-      let body = formula c k normal.signature p.body types [] in
-      let count : ℕ = normal_sum 1 0 p.body in
-      let made = made_same over body body types (normal_has_pairs p.body) true count count refl
-      sound.0.pairs refl inner in (
-        IsSoundFormula-made (stated c normal p) (count + types)
-            (omega (arith, sound.0.binders, sound.0.type_variables))
-            (closed-made over types body 0 types true count (omega arith) made),
-        stated-sound formulas sound.1,
-      )
-
-  where_chosen : (b : Bool) (formula : FofFormula) → IsSoundFormula over formula →
-      AllByRecursion (IsSoundFormula over) (cond b (formula ∷ []) [])
-  where_chosen true formula sound = (sound, tt)
-  where_chosen false formula sound = tt
-
-  typing_of-sound : (f : ℕ) (symbol : Symbol) → IsBounded (2 ^ 28) symbol →
-      slice_get normal.signature.symbols f ≡ Some symbol → (result : Option Ty) →
-      symbol.result ≡ result →
-      AllByRecursion (IsSoundFormula over) (typing_of c normal f symbol result)
-  typing_of-sound f symbol bounded at None gives = tt
-  typing_of-sound f symbol bounded at (Some result) gives =
-      let k = numbers c normal by_type typed in
-      let stated_axiom = axiom_named (typing_name symbol.name)
-      (typing_axiom c k normal.signature f symbol result) in
-      where_chosen (c.typing result) stated_axiom
-      (IsSoundFormula-made stated_axiom (length symbol.arguments + symbol.parameters)
-      (omega (arith, bounded.parameters, bounded.arguments))
-      (typing_axiom-made f symbol result at gives))
-
-  -- the symbols from some number on
-  abbrev AreAt : ℕ → List Symbol → Type 0
-  AreAt f symbols = (i : ℕ) (symbol : Symbol) → slice_get symbols i ≡ Some symbol →
-      slice_get normal.signature.symbols (f + i) ≡ Some symbol
-
-  typing_axioms-sound : (f : ℕ) (symbols : List Symbol) → AreAt f symbols →
-      AllByRecursion (IsBounded (2 ^ 28)) symbols →
-      AllByRecursion (IsSoundFormula over) (typing_axioms c normal f symbols)
-  typing_axioms-sound f [] are bounded = tt
-  typing_axioms-sound f (symbol ∷ symbols) are bounded =
-      let here : f + 0 ≡ f = omega arith in
-      all-append (IsSoundFormula over) (typing_of c normal f symbol symbol.result)
-      (typing_axioms c normal (f + 1) symbols)
-      (typing_of-sound f symbol bounded.0
-      (ap (slice_get normal.signature.symbols) (sym here) ∙ are 0 symbol refl)
-      symbol.result refl)
-      (typing_axioms-sound (f + 1) symbols (λ i other at.
-      let next : (f + 1) + i ≡ f + suc i = omega arith in
-      ap (slice_get normal.signature.symbols) next ∙ are (suc i) other at) bounded.1)
-
-  type_axioms-sound : AllByRecursion (IsSoundFormula over) (type_axioms c normal)
-  type_axioms-sound =
-      let k = numbers c normal by_type typed in
-      let stated_axiom = axiom_named (last_name c.binding)
-      (fof.ForAll (last_axiom c k normal.signature c.binding 1 (type.Var 0))) in
-      where_chosen (c.last (type.Var 0)) stated_axiom
-      (IsSoundFormula-made stated_axiom 2 (omega arith) (last_axiom-made c.binding refl))
-
-  -- the translation over all numbers
+  -- and with pairs, and few binders
   pub translation-sound : IsSoundBelow (2 ^ 28) normal.signature →
       AllByRecursion (source.IsSoundFormula normal.signature) normal.formulas →
       AllByRecursion (IsSoundFormula over) (translation c normal)
-  unfolding translation
   translation-sound bounded sound =
-      let symbols = normal.signature.symbols in
-      all-append (IsSoundFormula over) (map (stated c normal) normal.formulas)
-      (typing_axioms c normal 0 symbols ++ last_axioms c normal c.marking)
-      (stated-sound normal.formulas sound)
-      (all-append (IsSoundFormula over) (typing_axioms c normal 0 symbols)
-      (last_axioms c normal c.marking)
-      (typing_axioms-sound 0 symbols (λ i symbol at.
-      let same : 0 + i ≡ i = omega arith in
-      ap (slice_get symbols) same ∙ at) bounded.symbols)
-      (subst (λ marking. AllByRecursion (IsSoundFormula over) (last_axioms c normal marking))
-      (sym by_type.marking) type_axioms-sound))
+      let k = numbers c normal fit typed in
+      translation-all c normal (IsSoundFormula over)
+      (all-both (source.IsSoundFormula normal.signature)
+      (λ (p : NormalFormula). AreSorts normal (binder_types p.body))
+      (λ (p : NormalFormula). IsSoundFormula over (stated c normal p)) normal.formulas
+      (λ p is sorted. IsSoundFormula-made (stated c normal p) (normal_has_pairs p.body)
+      (normal_sum 1 0 p.body + p.type_variables) is.pairs
+      (omega (arith, is.binders, is.type_variables)) (stated-made p is.typed sorted))
+      sound (binder_sorts normal))
+      (λ f symbol result at gives.
+      let few = all_at (IsBounded (2 ^ 28)) normal.signature.symbols f symbol bounded.symbols at in
+      IsSoundFormula-made (axiom_named (typing_name symbol.name)
+      (typing_axiom c k normal.signature f symbol result)) true
+      (length symbol.arguments + symbol.parameters) refl
+      (omega (arith, few.parameters, few.arguments)) (typing_axiom-made f symbol result at gives))
+      (λ by_type. IsSoundFormula-made (axiom_named (last_name c.binding)
+      (fof.ForAll (last_axiom c k normal.signature c.binding 1 (type.Var 0)))) true 2 refl
+      (omega arith) (type_axiom-made by_type))
+      (λ by_sort. each (sorts normal) (sort_axioms-made by_sort))
+    where
+      each : (types : List Ty) →
+          AllByRecursion (λ ty. IsMade over
+          (last_axiom c (numbers c normal fit typed) normal.signature c.binding 0 ty) 0 true 1)
+          types →
+          AllByRecursion (λ ty. IsSoundFormula over
+          (axiom_named (sort_last_name normal c.binding ty)
+          (last_axiom c (numbers c normal fit typed) normal.signature c.binding 0 ty))) types
+      each [] made = tt
+      each (ty ∷ types) made = (
+        IsSoundFormula-made (axiom_named (sort_last_name normal c.binding ty)
+            (last_axiom c (numbers c normal fit typed) normal.signature c.binding 0 ty)) true 1 refl
+            (omega arith) made.0,
+        each types made.1,
+      )

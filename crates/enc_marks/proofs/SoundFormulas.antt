@@ -1,35 +1,46 @@
 -- The translation of a formula is a formula over all marked symbols, with pairs where the formula
 -- has them and with as many binders.
-use Rattle.std.specs.Prelude.{ℕ, zero, suc, ◌+◌, ◌≡◌, ◌≤◌, Bool, true, false, ◌&&◌, List, [], ◌∷◌, map, length, cond, leb, sum, slice_get, Option, Some, None}
+use Rattle.std.specs.Prelude.{ℕ, ◌+◌, ◌≡◌, ◌≤◌, Bool, true, false, ◌&&◌, List, [], ◌∷◌, map, length, cond, leb, sum, None}
 use Rattle.std.specs.List.{list_all}
-use Rattle.std.proofs.Common.{refl, sym, ap, ◌∙◌, arith}
+use Rattle.std.proofs.Common.{refl, sym, ap, ◌∙◌, subst, arith}
 use Rattle.std.proofs.lemmas.Bool.{and_from, lt-ltb}
 use Rattle.std.proofs.lemmas.List.{length-map}
 use Rattle.std.proofs.lemmas.List.Sums.{sum_by-cons}
 use Rattle.tf_core.specs.declared.ty.Ty.{Ty}
+use Rattle.tf_core.specs.declared.term.Term.{Term}
 use Rattle.tf_core.specs.declared.nnf.Nnf.{Nnf}
 use Rattle.tf_core.specs.declared.nnf.Nnf.TheVariants as nnf
 use Rattle.tf_core.specs.declared.normal.Normal.{Normal}
 use Rattle.tf_core.specs.Counts.{normal_has_pairs, normal_sum}
 use Rattle.tf_core.specs.Types.{instantiate}
-use Rattle.tf_core.specs.Typing.{IsType, IsSignature, IsNnf, nnf_true, nnf_false, nnf_atom, nnf_equation, nnf_and, nnf_or, nnf_for_all, nnf_exists, AreNnf, no_parts, more_parts}
+use Rattle.tf_core.specs.Sorts.{joined, binder_types}
+use Rattle.tf_core.specs.Typing.{IsType, IsEquation, IsSignature, IsNnf, nnf_true, nnf_false, nnf_atom, nnf_equation, nnf_and, nnf_or, nnf_for_all, nnf_exists, AreNnf, no_parts, more_parts}
 use Rattle.tf_core.proofs.Counts.{normal_sum-true, normal_sum-false, normal_sum-atom, normal_sum-equation, normal_sum-and, normal_sum-or, normal_sum-for_all, normal_sum-exists}
 use Rattle.fof_models.specs.declared.formula.FofTerm.{FofTerm}
 use Rattle.fof_models.specs.declared.formula.FofTerm.TheVariants as term
 use Rattle.fof_models.specs.declared.formula.Fof.{Fof}
 use Rattle.fof_models.specs.declared.formula.Fof.TheVariants as fof
 use Rattle.fof_models.specs.declared.problem.FofSymbol.{FofSymbol}
-use Rattle.fof_models.specs.Sound.{is_symbol, is_term, are_terms, is_formula, has_pairs, binder_count}
+use Rattle.fof_models.specs.Sound.{is_term, is_formula, has_pairs, binder_count}
 use Rattle.fof_models.proofs.Sound.{is_term-variable, is_formula-true, is_formula-false, is_formula-atom, is_formula-equal, is_formula-not, is_formula-and, is_formula-or, is_formula-implies, is_formula-for_all, is_formula-exists, has_pairs-true, has_pairs-false, has_pairs-atom, has_pairs-equal, has_pairs-not, has_pairs-and, has_pairs-or, has_pairs-implies, has_pairs-for_all, has_pairs-exists, binder_count-true, binder_count-false, binder_count-atom, binder_count-equal, binder_count-not, binder_count-and, binder_count-or, binder_count-implies, binder_count-for_all, binder_count-exists}
-use Rattle.tf_naked.specs.Standing.{Side, Kind, Universal, Existential, is_undercover, is_naked}
-use Rattle.enc_marks.specs.Choices.{Choices, ByType, BySort, Marking, Binding, ByGuard, ByTag}
-use Rattle.enc_marks.specs.Translation.{type_term, guard_by, tag_by, bind_by, bind, tag, literal, arguments_of, bare, side, for_all, exists, formula}
-use Rattle.enc_marks.specs.Encoded.{shared_mark}
-use Rattle.enc_marks.specs.Laws.{IsByType}
+use Rattle.tf_naked.specs.declared.position.Position.TheVariants.{Side}
+use Rattle.tf_naked.specs.declared.position.Kind.{Kind}
+use Rattle.tf_naked.specs.declared.position.Kind.TheVariants.{Universal, Existential}
+use Rattle.tf_naked.specs.Standing.{is_undercover, is_naked}
+use Rattle.tf_naked.specs.SortLaws.{AreSorts}
+use Rattle.tf_naked.proofs.Sorts.{sorts_front, sorts_back, term_sort}
+use Rattle.tf_naked.proofs.BinderTypes.{binder_types-and, binder_types-or, binder_types-for_all, binder_types-exists}
+use Rattle.enc_marks.specs.declared.choices.Marking.TheVariants.{BySort}
+use Rattle.enc_marks.specs.declared.choices.Binding.{Binding}
+use Rattle.enc_marks.specs.declared.choices.Binding.TheVariants.{ByGuard, ByTag}
+use Rattle.enc_marks.specs.Choices.{Choices}
+use Rattle.enc_marks.specs.Translation.{guard_by, tag_by, bind_by, bind, literal, arguments_of, bare, side, for_all, exists, formula}
+use Rattle.enc_marks.specs.Encoded.{is_guard}
+use Rattle.enc_marks.specs.Laws.{Fit}
 use Rattle.enc_marks.proofs.Translation.{formula-true, formula-false, formula-atom, formula-equation, formula-and, formula-or, formula-for_all, formula-exists}
-use Rattle.enc_marks.proofs.SoundMarks.{shared-at}
+use Rattle.enc_marks.proofs.OwnMarks.{own_number, own_arguments, guard_by-own, HasMark, HaveMarks, type_marked, marked_sorts}
 use Rattle.enc_marks.proofs.SoundPairs.{normal_has_pairs-true, normal_has_pairs-false, normal_has_pairs-atom, normal_has_pairs-equation, normal_has_pairs-and, normal_has_pairs-or, normal_has_pairs-for_all, normal_has_pairs-exists}
-use Rattle.enc_marks.proofs.SoundTerms.{numbers, marked, image-at, symbol_passes, pair-sound, tag-sound, placed-sound, instance-sound, bare-sound, bares-sound, bares_count}
+use Rattle.enc_marks.proofs.SoundTerms.{numbers, marked, own-sound, tag-sound, placed-sound, instance-sound, bare-sound, bares-sound, bares_count}
 
 -- ---- a formula that has so many binders, and pairs as a test says
 
@@ -125,54 +136,51 @@ module _ (signature : List FofSymbol) (depth : ℕ) (pairs : Bool) (binders : �
     count = binder_count-exists body ∙ ap (λ n. n + 1) made.count;
   }
 
-module _ (c : Choices) (normal : Normal) (by_type : IsByType c)
+module _ (c : Choices) (normal : Normal) (fit : Fit c normal)
     (typed : IsSignature normal.signature) where
   abbrev over : List FofSymbol
-  over = marked c normal by_type typed
+  over = marked c normal fit typed
 
   -- ---- what binds a term to a type
 
   module _ (variables depth : ℕ) (fits : variables ≤ depth) (ty : Ty) (t : FofTerm)
-      (formed : IsType normal.signature variables ty) (sound : is_term over t depth ≡ true) where
+      (has : HasMark c normal variables ty) (sound : is_term over t depth ≡ true) where
     guard-made : c.binding ≡ ByGuard →
-        IsMade over (guard_by c.marking (numbers c normal by_type typed) depth ty t) depth true 0
+        IsMade over (guard_by c.marking (numbers c normal fit typed) depth ty t) depth true 0
     guard-made guards =
-        let k = numbers c normal by_type typed in
-        let pair = type_term k.constructor depth ty ∷ t ∷ [] in
-        made_same over (guard_by c.marking k depth ty t) (fof.Atom k.shared pair) depth true true 0 0
-        (ap (λ marking. guard_by marking k depth ty t) by_type.marking) refl refl
+        let k = numbers c normal fit typed in
+        let number = own_number c.marking k ty in
+        let terms = own_arguments c.marking k depth ty t in
+        made_same over (guard_by c.marking k depth ty t) (fof.Atom number terms) depth true true 0 0
+        (guard_by-own c.marking k depth ty t) refl refl
         (record {
-          formed = is_formula-atom over k.shared pair depth
-              ∙ and_from (is_symbol (slice_get over k.shared) true 2) (are_terms over pair depth)
-              (symbol_passes (slice_get over k.shared) (shared_mark ByGuard).symbol true 2
-              (image-at c normal by_type typed k.shared (shared_mark c.binding)
-              (shared-at c normal by_type.marking)
-              ∙ ap (λ binding. Some (shared_mark binding).symbol) guards) refl refl)
-              (pair-sound c normal by_type typed variables depth fits ty t formed sound);
-          has_them = has_pairs-atom k.shared pair;
-          count = binder_count-atom k.shared pair;
+          formed = is_formula-atom over number terms depth
+              ∙ own-sound c normal fit typed variables depth fits true (ap is_guard guards) ty t has
+              sound;
+          has_them = has_pairs-atom number terms;
+          count = binder_count-atom number terms;
         })
 
     equal-made : c.binding ≡ ByTag →
-        IsMade over (fof.Equal (tag_by c.marking (numbers c normal by_type typed) depth ty t) t)
+        IsMade over (fof.Equal (tag_by c.marking (numbers c normal fit typed) depth ty t) t)
         depth true 0
     equal-made tags =
-        let tagged = tag_by c.marking (numbers c normal by_type typed) depth ty t in
+        let tagged = tag_by c.marking (numbers c normal fit typed) depth ty t in
         record {
           formed = is_formula-equal over tagged t depth
               ∙ and_from (is_term over tagged depth) (is_term over t depth)
-              (tag-sound c normal by_type typed variables depth fits tags ty t formed sound) sound;
+              (tag-sound c normal fit typed variables depth fits tags ty t has sound) sound;
           has_them = has_pairs-equal tagged t;
           count = binder_count-equal tagged t;
         }
 
     pub bind-made :
-        IsMade over (bind c (numbers c normal by_type typed) normal.signature depth ty t) depth
+        IsMade over (bind c (numbers c normal fit typed) normal.signature depth ty t) depth
         true 0
     bind-made = by c.binding refl
       where
         by : (binding : Binding) → c.binding ≡ binding →
-            IsMade over (bind_by binding c.marking (numbers c normal by_type typed) depth ty t)
+            IsMade over (bind_by binding c.marking (numbers c normal fit typed) depth ty t)
             depth true 0
         by ByGuard is = guard-made is
         by ByTag is = equal-made is
@@ -180,7 +188,7 @@ module _ (c : Choices) (normal : Normal) (by_type : IsByType c)
   -- ---- formulas
 
   abbrev image : Nnf → ℕ → List Kind → Fof
-  image p depth kinds = formula c (numbers c normal by_type typed) normal.signature p depth kinds
+  image p depth kinds = formula c (numbers c normal fit typed) normal.signature p depth kinds
 
   -- what the translation keeps of a formula
   abbrev IsKept : Nnf → ℕ → List Kind → Type 0
@@ -195,35 +203,61 @@ module _ (c : Choices) (normal : Normal) (by_type : IsByType c)
     count : sum (map binder_count (map (λ p. image p depth kinds) parts))
         ≡ sum (map (normal_sum 1 0) parts)
 
+  -- the types at the binders of a formula are sorts, where sorts have guards or tags of their own
+  abbrev pub BindersFit : Nnf → Type 0
+  BindersFit p = c.marking ≡ BySort → AreSorts normal (binder_types p)
+
+  -- and of a list of parts
+  abbrev PartsFit : List Nnf → Type 0
+  PartsFit parts = c.marking ≡ BySort → AreSorts normal (joined (map binder_types parts))
+
   -- the variable of the nearest binder
   nearest : (depth : ℕ) → is_term over (term.Var 0) (depth + 1) ≡ true
   nearest depth = is_term-variable over 0 (depth + 1) ∙ lt-ltb 0 (depth + 1) (omega arith)
 
   module _ (variables : ℕ) where
+    -- the type of an equation has a guard or tag
+    equation-marked : (context : List Ty) (ty : Ty) (left right : Term) →
+        HaveMarks c normal variables context →
+        IsEquation normal.signature variables context ty left right →
+        HasMark c normal variables ty
+    equation-marked context ty left right have is =
+        type_marked c.marking normal variables ty is.formed
+        (λ by_sort. term_sort normal (fit.monomorphic by_sort) variables context left ty
+        (marked_sorts c normal variables context have by_sort) is.left_side)
+
+    -- the type at a binder has one
+    binder-marked : (ty : Ty) (body whole : Nnf) → binder_types whole ≡ ty ∷ binder_types body →
+        IsType normal.signature variables ty → BindersFit whole → HasMark c normal variables ty
+    binder-marked ty body whole are formed sorted =
+        type_marked c.marking normal variables ty formed
+        (λ by_sort. (subst (AreSorts normal) are (sorted by_sort)).0)
+
     mutual
       pub formula-made : (context : List Ty) (kinds : List Kind) (depth : ℕ) →
-          variables + length context ≡ depth → (p : Nnf) →
-          IsNnf normal.signature variables context p → IsKept p depth kinds
-      formula-made context kinds depth deep p (nnf_true _) =
+          variables + length context ≡ depth → HaveMarks c normal variables context → (p : Nnf) →
+          IsNnf normal.signature variables context p → BindersFit p → IsKept p depth kinds
+      formula-made context kinds depth deep have p (nnf_true _) sorted =
           made_same over (image nnf.True depth kinds) fof.True depth true _ 0 _
-          (formula-true c (numbers c normal by_type typed) normal.signature depth kinds)
+          (formula-true c (numbers c normal fit typed) normal.signature depth kinds)
           (sym normal_has_pairs-true) (sym (normal_sum-true 1 0))
           (record {
             formed = is_formula-true over depth;
             has_them = has_pairs-true;
             count = binder_count-true;
           })
-      formula-made context kinds depth deep p (nnf_false _) =
+      formula-made context kinds depth deep have p (nnf_false _) sorted =
           made_same over (image nnf.False depth kinds) fof.False depth true _ 0 _
-          (formula-false c (numbers c normal by_type typed) normal.signature depth kinds)
+          (formula-false c (numbers c normal fit typed) normal.signature depth kinds)
           (sym normal_has_pairs-false) (sym (normal_sum-false 1 0))
           (record {
             formed = is_formula-false over depth;
             has_them = has_pairs-false;
             count = binder_count-false;
           })
-      formula-made context kinds depth deep p (nnf_atom _ positive f symbol types terms is) =
-          let k = numbers c normal by_type typed in
+      formula-made context kinds depth deep have p (nnf_atom _ positive f symbol types terms is)
+          sorted =
+          let k = numbers c normal fit typed in
           let bares = map (bare c k normal.signature depth kinds) terms in
           let atom = fof.Atom f (arguments_of c k normal.signature depth f types bares) in
           made_same over (image (nnf.Atom positive f types terms) depth kinds)
@@ -234,17 +268,18 @@ module _ (c : Choices) (normal : Normal) (by_type : IsByType c)
           (literal-made over positive atom depth (record {
             formed = is_formula-atom over f
                 (arguments_of c k normal.signature depth f types bares) depth
-                ∙ instance-sound c normal by_type typed variables depth (omega (arith, deep)) f
+                ∙ instance-sound c normal fit typed variables depth (omega (arith, deep)) f
                 symbol None types bares is.predicate
-                (bares_count c normal by_type typed variables context kinds depth deep symbol types
+                (bares_count c normal fit typed variables context kinds depth deep symbol types
                 terms is.arguments)
-                (bares-sound c normal by_type typed variables context kinds depth deep terms
+                (bares-sound c normal fit typed variables context kinds depth deep terms
                 (map (instantiate types) symbol.arguments) is.arguments);
             has_them = has_pairs-atom f (arguments_of c k normal.signature depth f types bares);
             count = binder_count-atom f (arguments_of c k normal.signature depth f types bares);
           }))
-      formula-made context kinds depth deep p (nnf_equation _ positive ty left right is) =
-          let k = numbers c normal by_type typed in
+      formula-made context kinds depth deep have p (nnf_equation _ positive ty left right is)
+          sorted =
+          let k = numbers c normal fit typed in
           let l = side c k normal.signature depth kinds positive ty left in
           let r = side c k normal.signature depth kinds positive ty right in
           made_same over (image (nnf.Equation positive ty left right) depth kinds)
@@ -255,24 +290,27 @@ module _ (c : Choices) (normal : Normal) (by_type : IsByType c)
           (literal-made over positive (fof.Equal l r) depth (record {
             formed = is_formula-equal over l r depth
                 ∙ and_from (is_term over l depth) (is_term over r depth)
-                (placed-sound c normal by_type typed variables depth (omega (arith, deep))
-                (Side positive) ty (bare c k normal.signature depth kinds left) is.formed
-                (bare-sound c normal by_type typed variables context kinds depth deep left ty
+                (placed-sound c normal fit typed variables depth (omega (arith, deep))
+                (Side positive) ty (bare c k normal.signature depth kinds left)
+                (equation-marked context ty left right have is)
+                (bare-sound c normal fit typed variables context kinds depth deep left ty
                 is.left_side))
-                (placed-sound c normal by_type typed variables depth (omega (arith, deep))
-                (Side positive) ty (bare c k normal.signature depth kinds right) is.formed
-                (bare-sound c normal by_type typed variables context kinds depth deep right ty
+                (placed-sound c normal fit typed variables depth (omega (arith, deep))
+                (Side positive) ty (bare c k normal.signature depth kinds right)
+                (equation-marked context ty left right have is)
+                (bare-sound c normal fit typed variables context kinds depth deep right ty
                 is.right_side));
             has_them = has_pairs-equal l r;
             count = binder_count-equal l r;
           }))
-      formula-made context kinds depth deep p (nnf_and _ parts have) =
+      formula-made context kinds depth deep have p (nnf_and _ parts each) sorted =
           let images = map (λ part. image part depth kinds) parts in
-          let all = formulas-made context kinds depth deep parts have in
+          let all = formulas-made context kinds depth deep have parts each
+          (λ by_sort. subst (AreSorts normal) (binder_types-and parts) (sorted by_sort)) in
           made_same over (image (nnf.And parts) depth kinds) (fof.And images) depth
           (leb 2 (length parts) && list_all normal_has_pairs parts) _
           (sum (map (normal_sum 1 0) parts)) _
-          (formula-and c (numbers c normal by_type typed) normal.signature parts depth kinds)
+          (formula-and c (numbers c normal fit typed) normal.signature parts depth kinds)
           (sym (normal_has_pairs-and parts)) (sym (normal_sum-and 1 0 parts))
           (record {
             formed = is_formula-and over images depth ∙ all.formed;
@@ -282,13 +320,14 @@ module _ (c : Choices) (normal : Normal) (by_type : IsByType c)
                 ∙ ap (λ b. leb 2 (length parts) && b) all.has_them;
             count = binder_count-and images ∙ all.count;
           })
-      formula-made context kinds depth deep p (nnf_or _ parts have) =
+      formula-made context kinds depth deep have p (nnf_or _ parts each) sorted =
           let images = map (λ part. image part depth kinds) parts in
-          let all = formulas-made context kinds depth deep parts have in
+          let all = formulas-made context kinds depth deep have parts each
+          (λ by_sort. subst (AreSorts normal) (binder_types-or parts) (sorted by_sort)) in
           made_same over (image (nnf.Or parts) depth kinds) (fof.Or images) depth
           (leb 2 (length parts) && list_all normal_has_pairs parts) _
           (sum (map (normal_sum 1 0) parts)) _
-          (formula-or c (numbers c normal by_type typed) normal.signature parts depth kinds)
+          (formula-or c (numbers c normal fit typed) normal.signature parts depth kinds)
           (sym (normal_has_pairs-or parts)) (sym (normal_sum-or 1 0 parts))
           (record {
             formed = is_formula-or over images depth ∙ all.formed;
@@ -298,8 +337,9 @@ module _ (c : Choices) (normal : Normal) (by_type : IsByType c)
                 ∙ ap (λ b. leb 2 (length parts) && b) all.has_them;
             count = binder_count-or images ∙ all.count;
           })
-      formula-made context kinds depth deep p (nnf_for_all _ ty body formed have) =
-          let k = numbers c normal by_type typed in
+      formula-made context kinds depth deep have p (nnf_for_all _ ty body formed inner)
+          sorted =
+          let k = numbers c normal fit typed in
           let bound = bind c k normal.signature (depth + 1) ty (term.Var 0) in
           let one_more : normal_sum 1 0 body + 1 ≡ 1 + normal_sum 1 0 body = omega arith in
           made_same over (image (nnf.ForAll ty body) depth kinds)
@@ -311,13 +351,19 @@ module _ (c : Choices) (normal : Normal) (by_type : IsByType c)
           (one_more ∙ sym (normal_sum-for_all 1 0 ty body))
           (for_all-made over depth (normal_has_pairs body) (normal_sum 1 0 body) bound
           (image body (depth + 1) (Universal ∷ kinds))
-          (bind-made variables (depth + 1) (omega (arith, deep)) ty (term.Var 0) formed
+          (bind-made variables (depth + 1) (omega (arith, deep)) ty (term.Var 0)
+          (binder-marked ty body (nnf.ForAll ty body) (binder_types-for_all ty body) formed sorted)
           (nearest depth))
-          (formula-made (ty ∷ context) (Universal ∷ kinds) (depth + 1) (omega (arith, deep)) body
-          have)
+          (formula-made (ty ∷ context) (Universal ∷ kinds) (depth + 1) (omega (arith, deep)) (
+            binder-marked ty body (nnf.ForAll ty body) (binder_types-for_all ty body) formed sorted,
+            have,
+          )
+          body inner
+          (λ by_sort. (subst (AreSorts normal) (binder_types-for_all ty body) (sorted by_sort)).1))
           (c.universal (is_undercover normal.signature body) (is_naked normal.signature body) ty))
-      formula-made context kinds depth deep p (nnf_exists _ ty body formed have) =
-          let k = numbers c normal by_type typed in
+      formula-made context kinds depth deep have p (nnf_exists _ ty body formed inner)
+          sorted =
+          let k = numbers c normal fit typed in
           let bound = bind c k normal.signature (depth + 1) ty (term.Var 0) in
           let one_more : normal_sum 1 0 body + 1 ≡ 1 + normal_sum 1 0 body = omega arith in
           made_same over (image (nnf.Exists ty body) depth kinds)
@@ -329,20 +375,31 @@ module _ (c : Choices) (normal : Normal) (by_type : IsByType c)
           (one_more ∙ sym (normal_sum-exists 1 0 ty body))
           (exists-made over depth (normal_has_pairs body) (normal_sum 1 0 body) bound
           (image body (depth + 1) (Existential ∷ kinds))
-          (bind-made variables (depth + 1) (omega (arith, deep)) ty (term.Var 0) formed
+          (bind-made variables (depth + 1) (omega (arith, deep)) ty (term.Var 0)
+          (binder-marked ty body (nnf.Exists ty body) (binder_types-exists ty body) formed sorted)
           (nearest depth))
-          (formula-made (ty ∷ context) (Existential ∷ kinds) (depth + 1) (omega (arith, deep)) body
-          have)
+          (formula-made (ty ∷ context) (Existential ∷ kinds) (depth + 1) (omega (arith, deep)) (
+            binder-marked ty body (nnf.Exists ty body) (binder_types-exists ty body) formed sorted,
+            have,
+          )
+          body inner
+          (λ by_sort. (subst (AreSorts normal) (binder_types-exists ty body) (sorted by_sort)).1))
           (c.existential ty))
 
       formulas-made : (context : List Ty) (kinds : List Kind) (depth : ℕ) →
-          variables + length context ≡ depth → (parts : List Nnf) →
-          AreNnf normal.signature variables context parts → AreKept parts depth kinds
-      formulas-made context kinds depth deep parts (no_parts _) =
+          variables + length context ≡ depth → HaveMarks c normal variables context →
+          (parts : List Nnf) → AreNnf normal.signature variables context parts → PartsFit parts →
+          AreKept parts depth kinds
+      formulas-made context kinds depth deep have parts (no_parts _) sorted =
           record { formed = refl; has_them = refl; count = refl }
-      formulas-made context kinds depth deep parts (more_parts _ part others first rest) =
-          let here = formula-made context kinds depth deep part first in
-          let there = formulas-made context kinds depth deep others rest in
+      formulas-made context kinds depth deep have parts (more_parts _ part others first rest)
+          sorted =
+          let here = formula-made context kinds depth deep have part first
+          (λ by_sort. sorts_front normal (binder_types part) (joined (map binder_types others))
+          (sorted by_sort)) in
+          let there = formulas-made context kinds depth deep have others rest
+          (λ by_sort. sorts_back normal (binder_types part) (joined (map binder_types others))
+          (sorted by_sort)) in
           let q = image part depth kinds in
           let images = map (λ p. image p depth kinds) others in
           record {

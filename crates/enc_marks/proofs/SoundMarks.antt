@@ -1,17 +1,23 @@
 -- Where marked symbols stand: among all, and among those that occur.
-use Rattle.std.specs.Prelude.{ℕ, zero, suc, ◌+◌, ◌≡◌, ◌<◌, ◌≤◌, Bool, true, false, List, [], ◌∷◌, ◌++◌, map, length, cond, slice_get, Some}
-use Rattle.std.specs.List.{AllByRecursion}
+use Rattle.std.specs.Prelude.{ℕ, zero, suc, ◌+◌, ◌≡◌, ◌≤◌, Bool, true, false, not, ◌||◌, List, [], ◌∷◌, ◌++◌, length, cond, slice_get, Some, IsTrue}
+use Rattle.std.specs.List.{AllByRecursion, list_any, position_or_len}
 use Rattle.std.proofs.Common.{refl, sym, ap, ◌∙◌, arith}
-use Rattle.std.proofs.lemmas.Option.{slice_get-map}
+use Rattle.std.proofs.lemmas.Bool.{false≢true}
+use Rattle.tf_core.specs.declared.ty.Ty.{Ty}
 use Rattle.tf_core.specs.declared.signature.Symbol.{Symbol}
 use Rattle.tf_core.specs.declared.signature.Constructor.{Constructor}
 use Rattle.tf_core.specs.declared.normal.Normal.{Normal}
-use Rattle.fof_models.specs.declared.problem.FofSymbol.{FofSymbol}
-use Rattle.enc_marks.specs.Choices.{Choices, ByType}
+use Rattle.tf_core.specs.Types.{same_type}
+use Rattle.tf_core.specs.Sorts.{sorts}
+use Rattle.tf_core.proofs.Typed.{same_type-says}
+use Rattle.tf_naked.specs.SortLaws.{IsSort}
+use Rattle.enc_marks.specs.declared.choices.Marking.TheVariants.{ByType, BySort}
+use Rattle.enc_marks.specs.declared.choices.Binding.{Binding}
+use Rattle.enc_marks.specs.Choices.{Choices}
 use Rattle.enc_marks.specs.Occurrence.{count_below, passing}
-use Rattle.enc_marks.specs.Encoded.{MarkedSymbol, marked_symbol, marked_symbols, marked_constructor, marked_constructors, shared_mark, own_marks, all_marks}
+use Rattle.enc_marks.specs.Encoded.{MarkedSymbol, marked_symbol, marked_symbols, marked_constructor, marked_constructors, shared_mark, sort_mark, sort_marks, own_marks, all_marks}
 use Rattle.enc_marks.proofs.Passing.{numbered, length-numbered, marked_symbols-numbered, marked_constructors-numbered}
-use Rattle.enc_marks.proofs.Ranks.{count_below-more, count_below-le}
+use Rattle.enc_marks.proofs.Ranks.{count_below-more}
 
 -- ---- places in lists
 
@@ -39,6 +45,26 @@ slice_get-numbered g number (x ∷ items) zero item at =
 slice_get-numbered g number (x ∷ items) (suc i) item at =
     let next : number + 1 + i ≡ number + suc i = omega arith in
     slice_get-numbered g (number + 1) items i item at ∙ ap (λ n. Some (g n item)) next
+
+-- an item that passes stands at this number
+abbrev Found : {A : Type 0} → (A → Bool) → List A → ℕ → Type 0
+Found {A} test items n = (item : A) × ((slice_get items n ≡ Some item) × IsTrue (test item))
+
+-- the first item that passes stands at its position
+slice_get-position : {A : Type 0} (test : A → Bool) (items : List A) →
+    IsTrue (list_any test items) → Found test items (position_or_len test items)
+slice_get-position test [] some = absurd (false≢true some)
+slice_get-position test (x ∷ items) some = by (test x) refl some (slice_get-position test items)
+  where
+    by : (b : Bool) → test x ≡ b → IsTrue (b || list_any test items) →
+        (IsTrue (list_any test items) → Found test items (position_or_len test items)) →
+        Found test (x ∷ items) (cond (not b) (1 + position_or_len test items) 0)
+    by true is any later = (x, (refl, is))
+    by false is any later =
+        let found = later any in
+        let at = position_or_len test items in
+        let next : suc at ≡ 1 + at = omega arith in
+        (found.0, (ap (slice_get (x ∷ items)) (sym next) ∙ found.1.0, found.1.1))
 
 -- ---- those that pass a test
 
@@ -112,6 +138,13 @@ all-passing P test first (x ∷ items) all =
 
 -- ---- all marked symbols
 
+pub sort_marks-numbered : (normal : Normal) (binding : Binding) (number : ℕ) (types : List Ty) →
+    sort_marks normal binding number types ≡ numbered (sort_mark normal binding) number types
+sort_marks-numbered normal binding number [] = refl
+sort_marks-numbered normal binding number (ty ∷ types) =
+    ap (λ marks. sort_mark normal binding number ty ∷ marks)
+    (sort_marks-numbered normal binding (number + 1) types)
+
 module _ (c : Choices) (normal : Normal) where
   abbrev symbols : List Symbol
   symbols = normal.signature.symbols
@@ -163,16 +196,46 @@ module _ (c : Choices) (normal : Normal) where
       ∙ slice_get-numbered (marked_constructor normal) 0 constructors i constructor at
       ∙ ap (λ n. Some (marked_constructor normal n constructor)) same)
 
+  -- what stands behind the constructors
+  behind_constructors : (i : ℕ) →
+      slice_get (all_marks c normal) (length symbols + length constructors + i)
+      ≡ slice_get (own_marks normal c.binding c.marking) i
+  behind_constructors i =
+      let apart : length symbols + length constructors + i
+      ≡ length symbols + (length constructors + i) = omega arith in
+      ap (slice_get (all_marks c normal)) apart
+      ∙ behind_symbols (length constructors + i)
+      ∙ ap (λ n. slice_get (marked_constructors normal 0 constructors
+      ++ own_marks normal c.binding c.marking) (n + i)) (sym length-marked_constructors)
+      ∙ slice_get-back (marked_constructors normal 0 constructors)
+      (own_marks normal c.binding c.marking) i
+
   pub shared-at : c.marking ≡ ByType →
       slice_get (all_marks c normal) (length symbols + length constructors)
       ≡ Some (shared_mark c.binding)
   shared-at by_type =
-      let same : length constructors ≡ length constructors + 0 = omega arith in
-      behind_symbols (length constructors)
-      ∙ ap (slice_get (marked_constructors normal 0 constructors
-      ++ own_marks normal c.binding c.marking)) same
-      ∙ ap (λ n. slice_get (marked_constructors normal 0 constructors
-      ++ own_marks normal c.binding c.marking) (n + 0)) (sym length-marked_constructors)
-      ∙ slice_get-back (marked_constructors normal 0 constructors)
-      (own_marks normal c.binding c.marking) 0
+      let first : length symbols + length constructors
+      ≡ length symbols + length constructors + 0 = omega arith in
+      ap (slice_get (all_marks c normal)) first
+      ∙ behind_constructors 0
       ∙ ap (λ marking. slice_get (own_marks normal c.binding marking) 0) by_type
+
+  -- the number of a sort among the sorts
+  abbrev pub sort_number : Ty → ℕ
+  sort_number ty = position_or_len (same_type ty) (sorts normal)
+
+  pub sort-at : c.marking ≡ BySort → (ty : Ty) → IsSort normal ty →
+      slice_get (all_marks c normal) (length symbols + length constructors + sort_number ty)
+      ≡ Some (sort_mark normal c.binding (sort_number ty) ty)
+  sort-at by_sort ty is =
+      let s = sort_number ty in
+      let same : 0 + s ≡ s = omega arith in
+      let found = slice_get-position (same_type ty) (sorts normal) is in
+      behind_constructors s
+      ∙ ap (λ marking. slice_get (own_marks normal c.binding marking) s) by_sort
+      ∙ ap (λ (list : List MarkedSymbol). slice_get list s)
+      (sort_marks-numbered normal c.binding 0 (sorts normal))
+      ∙ slice_get-numbered (sort_mark normal c.binding) 0 (sorts normal) s found.0 found.1.0
+      ∙ ap (λ n. Some (sort_mark normal c.binding n found.0)) same
+      ∙ ap (λ other. Some (sort_mark normal c.binding s other))
+      (sym (same_type-says ty found.0 found.1.1))

@@ -1,34 +1,38 @@
 -- The translations of types and terms are terms over all marked symbols.
-use Rattle.std.specs.Prelude.{ℕ, zero, suc, ◌+◌, ◌-◌, ◌≡◌, ◌<◌, ◌≤◌, Bool, true, false, not, ◌&&◌, List, [], ◌∷◌, ◌++◌, map, length, cond, count_by, is_none, eqb, slice_get, Option, Some, None}
-use Rattle.std.specs.List.{AllByRecursion, list_all}
+use Rattle.std.specs.Prelude.{ℕ, suc, ◌+◌, ◌-◌, ◌≡◌, ◌≤◌, Bool, true, false, not, ◌&&◌, List, [], ◌∷◌, ◌++◌, map, length, cond, is_none, eqb, slice_get, Option, Some}
+use Rattle.std.specs.List.{AllByRecursion}
 use Rattle.std.specs.Option.{option_map}
 use Rattle.std.proofs.Common.{refl, sym, ap, ◌∙◌, subst, arith}
 use Rattle.std.proofs.lemmas.Bool.{and_from, and_parts, eq-eqb, lt-ltb}
 use Rattle.std.proofs.lemmas.List.{length-map, length-append}
 use Rattle.std.proofs.lemmas.Option.{slice_get-map, slice_get_within}
 use Rattle.tf_core.specs.declared.ty.Ty.{Ty}
-use Rattle.tf_core.specs.declared.ty.Ty.TheVariants as type
 use Rattle.tf_core.specs.declared.term.Term.{Term}
-use Rattle.tf_core.specs.declared.signature.Constructor.{Constructor}
 use Rattle.tf_core.specs.declared.signature.Symbol.{Symbol}
 use Rattle.tf_core.specs.declared.signature.Signature.{Signature}
 use Rattle.tf_core.specs.declared.normal.Normal.{Normal}
 use Rattle.tf_core.specs.Types.{instantiate}
 use Rattle.tf_core.specs.Typing.{IsType, type_variable, type_apply, AreTypes, no_types, more_types, IsInstance, HasType, of_variable, of_apply, HaveTypes, no_terms, more_terms, IsSymbol, IsSignature}
 use Rattle.fof_models.specs.declared.formula.FofTerm.{FofTerm}
-use Rattle.fof_models.specs.declared.formula.FofTerm.TheVariants as term
 use Rattle.fof_models.specs.declared.problem.FofSymbol.{FofSymbol}
 use Rattle.fof_models.specs.Sound.{is_of_kind, is_symbol, is_term, are_terms}
 use Rattle.fof_models.proofs.Sound.{is_term-variable, is_term-apply}
 use Rattle.tf_naked.specs.Covers.{covers}
-use Rattle.tf_naked.specs.Standing.{Position, Argument, Kind}
-use Rattle.enc_marks.specs.Choices.{Choices, ByType, BySort, Marking, Binding, ByGuard, ByTag}
-use Rattle.enc_marks.specs.Translation.{Numbers, Bare, type_term, tag_by, selected, tag, placed, placed_all, arguments, arguments_of, bare}
-use Rattle.enc_marks.specs.Encoded.{MarkedSymbol, all_numbers, all_marks, marked_symbol, marked_constructor, shared_mark}
-use Rattle.enc_marks.specs.Laws.{IsByType}
+use Rattle.tf_naked.proofs.Sorts.{place_sorts}
+use Rattle.tf_naked.specs.declared.position.Position.{Position}
+use Rattle.tf_naked.specs.declared.position.Position.TheVariants.{Argument}
+use Rattle.tf_naked.specs.declared.position.Kind.{Kind}
+use Rattle.enc_marks.specs.declared.choices.Marking.TheVariants.{ByType, BySort}
+use Rattle.enc_marks.specs.declared.choices.Marking.{Marking}
+use Rattle.enc_marks.specs.declared.choices.Binding.TheVariants.{ByTag}
+use Rattle.enc_marks.specs.Choices.{Choices}
+use Rattle.enc_marks.specs.Translation.{Numbers, Bare, type_term, selected, tag, placed, placed_all, arguments, arguments_of, bare}
+use Rattle.enc_marks.specs.Encoded.{MarkedSymbol, is_guard, all_numbers, all_marks, marked_symbol, marked_constructor}
+use Rattle.enc_marks.specs.Laws.{Fit}
 use Rattle.enc_marks.proofs.Translation.{type_term-variable, type_term-apply, bare-variable, bare-apply}
-use Rattle.enc_marks.proofs.Uniform.{length-covers}
-use Rattle.enc_marks.proofs.SoundMarks.{symbol-at, constructor-at, shared-at}
+use Rattle.enc_marks.proofs.CoverCount.{length-covers}
+use Rattle.enc_marks.proofs.SoundMarks.{symbol-at, constructor-at}
+use Rattle.enc_marks.proofs.OwnMarks.{own_number, own_arguments, own_mark, tag_by-own, MarkedBy, HasMark, HaveMarks, types_marked, own_mark-at, own_mark-kind, own_mark-arity}
 use Rattle.enc_marks.proofs.SoundTypes.{AreTypes-instantiate, AreTypes-selected, length-selected, all_at}
 
 -- a symbol passes in its kind and at its number of arguments
@@ -60,7 +64,7 @@ HaveTypes-length g variables context terms types no_terms = refl
 HaveTypes-length g variables context terms types (more_terms t ty ts tys first rest) =
     ap suc (HaveTypes-length g variables context ts tys rest)
 
-module _ (c : Choices) (normal : Normal) (by_type : IsByType c)
+module _ (c : Choices) (normal : Normal) (fit : Fit c normal)
     (typed : IsSignature normal.signature) where
   abbrev pub own : Signature
   own = normal.signature
@@ -110,55 +114,74 @@ module _ (c : Choices) (normal : Normal) (by_type : IsByType c)
           (are_terms marked (map (type_term numbers.constructor depth) others) depth)
           (type_term-sound ty first) (type_terms-sound others rest)
 
-    -- a type and a term of it
-    pub pair-sound : (ty : Ty) (t : FofTerm) → IsType own variables ty →
-        is_term marked t depth ≡ true →
-        are_terms marked (type_term numbers.constructor depth ty ∷ t ∷ []) depth ≡ true
-    pair-sound ty t formed sound =
-        and_from (is_term marked (type_term numbers.constructor depth ty) depth)
-        (are_terms marked (t ∷ []) depth) (type_term-sound ty formed)
-        (and_from (is_term marked t depth) true sound refl)
-
     -- ---- tags
 
-    pub tag-sound : c.binding ≡ ByTag → (ty : Ty) (t : FofTerm) → IsType own variables ty →
+    -- what a guard or tag is applied to
+    pub own_arguments-sound : (ty : Ty) (t : FofTerm) → HasMark c normal variables ty →
+        is_term marked t depth ≡ true →
+        are_terms marked (own_arguments c.marking numbers depth ty t) depth ≡ true
+    own_arguments-sound ty t = by c.marking
+      where
+        by : (marking : Marking) → MarkedBy marking normal variables ty →
+            is_term marked t depth ≡ true →
+            are_terms marked (own_arguments marking numbers depth ty t) depth ≡ true
+        by ByType formed sound =
+            and_from (is_term marked (type_term numbers.constructor depth ty) depth)
+            (are_terms marked (t ∷ []) depth) (type_term-sound ty formed)
+            (and_from (is_term marked t depth) true sound refl)
+        by BySort sort sound = and_from (is_term marked t depth) true sound refl
+
+    -- a guard or tag is applied as its arity says
+    pub own-sound : (predicate : Bool) → is_guard c.binding ≡ predicate → (ty : Ty) (t : FofTerm) →
+        HasMark c normal variables ty → is_term marked t depth ≡ true →
+        (is_symbol (slice_get marked (own_number c.marking numbers ty)) predicate
+        (length (own_arguments c.marking numbers depth ty t))
+        && are_terms marked (own_arguments c.marking numbers depth ty t) depth) ≡ true
+    own-sound predicate kind ty t has sound =
+        let number = own_number c.marking numbers ty in
+        let one = own_mark c.marking normal c ty in
+        let terms = own_arguments c.marking numbers depth ty t in
+        and_from (is_symbol (slice_get marked number) predicate (length terms))
+        (are_terms marked terms depth)
+        (symbol_passes (slice_get marked number) one.symbol predicate (length terms)
+        (image-at number one (own_mark-at c normal variables ty has))
+        (own_mark-kind c.marking normal c ty ∙ kind)
+        (own_mark-arity c.marking normal c numbers depth ty t))
+        (own_arguments-sound ty t has sound)
+
+    pub tag-sound : c.binding ≡ ByTag → (ty : Ty) (t : FofTerm) → HasMark c normal variables ty →
         is_term marked t depth ≡ true →
         is_term marked (tag c numbers own depth ty t) depth ≡ true
-    tag-sound tags ty t formed sound =
-        let pair = type_term numbers.constructor depth ty ∷ t ∷ [] in
-        ap (λ marking. is_term marked (tag_by marking numbers depth ty t) depth) by_type.marking
-        ∙ is_term-apply marked numbers.shared pair depth
-        ∙ and_from (is_symbol (slice_get marked numbers.shared) false 2)
-        (are_terms marked pair depth)
-        (symbol_passes (slice_get marked numbers.shared) (shared_mark ByTag).symbol false 2
-        (image-at numbers.shared (shared_mark c.binding) (shared-at c normal by_type.marking)
-        ∙ ap (λ binding. Some (shared_mark binding).symbol) tags) refl refl)
-        (pair-sound ty t formed sound)
+    tag-sound tags ty t has sound =
+        ap (λ tagged. is_term marked tagged depth) (tag_by-own c.marking numbers depth ty t)
+        ∙ is_term-apply marked (own_number c.marking numbers ty)
+        (own_arguments c.marking numbers depth ty t) depth
+        ∙ own-sound false (ap is_guard tags) ty t has sound
 
-    pub placed-sound : (position : Position) (ty : Ty) (t : Bare) → IsType own variables ty →
-        is_term marked t.term depth ≡ true →
+    pub placed-sound : (position : Position) (ty : Ty) (t : Bare) →
+        HasMark c normal variables ty → is_term marked t.term depth ≡ true →
         is_term marked (placed c numbers own depth position ty t) depth ≡ true
-    placed-sound position ty t formed sound = by (c.tagged position t.kind ty) refl
+    placed-sound position ty t has sound = by (c.tagged position t.kind ty) refl
       where
         by : (b : Bool) → c.tagged position t.kind ty ≡ b →
             is_term marked (cond b (tag c numbers own depth ty t.term) t.term) depth ≡ true
-        by true is = tag-sound (by_type.tags position t.kind ty is) ty t.term formed sound
+        by true is = tag-sound (fit.tags position t.kind ty is) ty t.term has sound
         by false is = sound
 
     -- ---- arguments
 
     pub placed_all-sound : (tests : List Bool) (types : List Ty) (terms : List Bare) →
-        AreTypes own variables types →
+        HaveMarks c normal variables types →
         AllByRecursion (λ (t : Bare). is_term marked t.term depth ≡ true) terms →
         are_terms marked (placed_all c numbers own depth tests types terms) depth ≡ true
-    placed_all-sound [] types terms formed sound = refl
-    placed_all-sound (test ∷ tests) types terms no_types sound = refl
-    placed_all-sound (test ∷ tests) types [] (more_types ty others first rest) sound = refl
-    placed_all-sound (test ∷ tests) types (t ∷ terms) (more_types ty others first rest) sound =
+    placed_all-sound [] types terms have sound = refl
+    placed_all-sound (test ∷ tests) [] terms have sound = refl
+    placed_all-sound (test ∷ tests) (ty ∷ others) [] have sound = refl
+    placed_all-sound (test ∷ tests) (ty ∷ others) (t ∷ terms) have sound =
         and_from (is_term marked (placed c numbers own depth (Argument test) ty t) depth)
         (are_terms marked (placed_all c numbers own depth tests others terms) depth)
-        (placed-sound (Argument test) ty t first sound.0)
-        (placed_all-sound tests others terms rest sound.1)
+        (placed-sound (Argument test) ty t have.0 sound.0)
+        (placed_all-sound tests others terms have.1 sound.1)
 
     length-placed_all : (tests : List Bool) (types : List Ty) (terms : List Bare) →
         length tests ≡ length terms → length types ≡ length terms →
@@ -178,7 +201,7 @@ module _ (c : Choices) (normal : Normal) (by_type : IsByType c)
     pub applied-sound : (f : ℕ) (symbol : Symbol) (predicate : Bool) (types places : List Ty)
         (terms : List Bare) → slice_get own.symbols f ≡ Some symbol →
         is_none symbol.result ≡ predicate → AreTypes own variables types →
-        length types ≡ symbol.parameters → AreTypes own variables places →
+        length types ≡ symbol.parameters → HaveMarks c normal variables places →
         length places ≡ length symbol.arguments → length terms ≡ length symbol.arguments →
         AllByRecursion (λ (t : Bare). is_term marked t.term depth ≡ true) terms →
         (is_symbol (slice_get marked f) predicate
@@ -187,11 +210,11 @@ module _ (c : Choices) (normal : Normal) (by_type : IsByType c)
         && are_terms marked
         (map (type_term numbers.constructor depth) (selected (c.keeps symbol) types)
         ++ placed_all c numbers own depth (covers symbol) places terms) depth) ≡ true
-    applied-sound f symbol predicate types places terms at kind formed types_count formed_places
+    applied-sound f symbol predicate types places terms at kind formed types_count have_places
         places_count terms_count sound =
         let front = map (type_term numbers.constructor depth) (selected (c.keeps symbol) types) in
         let back = placed_all c numbers own depth (covers symbol) places terms in
-        let few = by_type.keeps symbol in
+        let few = fit.keeps symbol in
         let count : (marked_symbol c f symbol).symbol.arity ≡ length (front ++ back) =
         omega (
           arith,
@@ -210,7 +233,7 @@ module _ (c : Choices) (normal : Normal) (by_type : IsByType c)
         (are_terms-append marked front back depth
         (type_terms-sound (selected (c.keeps symbol) types)
         (AreTypes-selected own variables (c.keeps symbol) types formed))
-        (placed_all-sound (covers symbol) places terms formed_places sound))
+        (placed_all-sound (covers symbol) places terms have_places sound))
 
   -- ---- terms
 
@@ -227,6 +250,16 @@ module _ (c : Choices) (normal : Normal) (by_type : IsByType c)
           AreTypes own n symbol.arguments
       ap_types same are = subst (λ k. AreTypes own k symbol.arguments) same are
 
+  -- the types of the places where terms stand have guards or tags
+  pub places_marked : (variables f : ℕ) (symbol : Symbol) (result : Option Ty) (types : List Ty) →
+      IsInstance own variables f symbol result types →
+      HaveMarks c normal variables (map (instantiate types) symbol.arguments)
+  places_marked variables f symbol result types instance =
+      types_marked c.marking normal variables (map (instantiate types) symbol.arguments)
+      (arguments_formed f symbol variables types instance.at instance.count instance.formed)
+      (λ by_sort. place_sorts normal (fit.monomorphic by_sort) variables f symbol result types
+      instance)
+
   -- an instance of a symbol, of the kind that its result says, at terms
   pub instance-sound : (variables depth : ℕ) → variables ≤ depth → (f : ℕ) (symbol : Symbol)
       (result : Option Ty) (types : List Ty) (terms : List Bare) →
@@ -242,7 +275,7 @@ module _ (c : Choices) (normal : Normal) (by_type : IsByType c)
       ∙ applied-sound variables depth fits f symbol (is_none result) types
       (map (instantiate types) symbol.arguments) terms instance.at
       (ap is_none instance.gives) instance.formed instance.count
-      (arguments_formed f symbol variables types instance.at instance.count instance.formed)
+      (places_marked variables f symbol result types instance)
       (length-map symbol.arguments (instantiate types)) count sound
 
   module _ (variables : ℕ) (context : List Ty) (kinds : List Kind) (depth : ℕ)
@@ -267,7 +300,8 @@ module _ (c : Choices) (normal : Normal) (by_type : IsByType c)
           ap (λ (b : Bare). is_term marked b.term depth)
           (bare-apply c numbers own depth kinds f types terms)
           ∙ is_term-apply marked f
-          (arguments_of c numbers own depth f types (map (bare c numbers own depth kinds) terms)) depth
+          (arguments_of c numbers own depth f types (map (bare c numbers own depth kinds) terms))
+          depth
           ∙ instance-sound variables depth (omega (arith, deep)) f symbol (Some result) types
           (map (bare c numbers own depth kinds) terms) instance
           (bares_count symbol types terms have)

@@ -1,28 +1,34 @@
 -- The names of an encoded problem can be written, where the normal problem's names can be.
-use Rattle.std.specs.Prelude.{ℕ, zero, suc, ◌+◌, ◌-◌, ◌%◌, ◌^◌, ◌<◌, ◌≤◌, ◌≡◌, Bool, true, false, List, [], ◌∷◌, ◌++◌, map, length, take, cond, codes, leb, IsTrue, Option, Some, None}
+use Rattle.std.specs.Prelude.{ℕ, zero, suc, ◌+◌, ◌-◌, ◌%◌, ◌^◌, ◌<◌, ◌≤◌, ◌≡◌, Bool, true, false, List, [], ◌∷◌, ◌++◌, map, length, take, cond, codes, leb, flat_map, slice_get, IsTrue, Option, Some, None}
 use Rattle.std.specs.List.{AllByRecursion, list_all}
 use Rattle.std.specs.Fmt.{decimal}
-use Rattle.std.proofs.Common.{refl, sym, ap, ◌∙◌, subst, arith}
+use Rattle.std.proofs.Common.{refl, sym, subst, arith}
 use Rattle.std.proofs.lemmas.Bool.{and_from, and_parts, le-leb, leb-false}
 use Rattle.std.proofs.lemmas.Fmt.{decimal_by_steps}
 use Rattle.std.proofs.lemmas.List.{length-append}
+use Rattle.std.proofs.lemmas.Option.{slice_get_within}
 use Rattle.tf_core.specs.declared.ty.Ty.{Ty}
-use Rattle.tf_core.specs.declared.ty.Ty.TheVariants as type
 use Rattle.tf_core.specs.declared.signature.Constructor.{Constructor}
 use Rattle.tf_core.specs.declared.signature.Symbol.{Symbol}
-use Rattle.tf_core.specs.declared.normal.NormalFormula.{NormalFormula}
 use Rattle.tf_core.specs.declared.normal.Normal.{Normal}
-use Rattle.fof_models.specs.declared.formula.Fof.TheVariants as fof
+use Rattle.tf_core.specs.Sorts.{sorts}
+use Rattle.tf_core.proofs.Induction.{type_induction}
 use Rattle.fof_models.specs.declared.problem.FofSymbol.{FofSymbol}
 use Rattle.fof_models.specs.declared.problem.FofFormula.{FofFormula}
-use Rattle.enc_marks.specs.Choices.{Choices, ByType, Binding, ByGuard, ByTag}
+use Rattle.enc_marks.specs.declared.choices.Marking.{Marking}
+use Rattle.enc_marks.specs.declared.choices.Marking.TheVariants.{ByType, BySort}
+use Rattle.enc_marks.specs.declared.choices.Binding.{Binding}
+use Rattle.enc_marks.specs.declared.choices.Binding.TheVariants.{ByGuard, ByTag}
+use Rattle.enc_marks.specs.Choices.{Choices}
 use Rattle.enc_marks.specs.Occurrence.{passing}
-use Rattle.enc_marks.specs.Names.{first_fresh, constructor_name, wanted_constructor, wanted_mark, typing_name, last_name}
-use Rattle.enc_marks.specs.Axioms.{typing_axiom, last_axiom}
-use Rattle.enc_marks.specs.Encoded.{MarkedSymbol, all_numbers, axiom_named, marked_symbols, marked_constructors, own_marks, all_marks, stated, typing_of, typing_axioms, type_axioms, last_axioms, translation, is_present, renumbered, encoded}
-use Rattle.enc_marks.specs.Laws.{IsByType, is_writable_byte, IsWritable, HasWritableNames, CanBeNamed, TranslationsCanBeNamed}
+use Rattle.enc_marks.specs.Names.{first_fresh, constructor_name, wanted_constructor, flat_constructor, flat_name, wanted_mark, last_name, sort_last_name}
+use Rattle.enc_marks.specs.Encoded.{MarkedSymbol, marked_symbols, marked_constructors, sort_marks, own_marks, all_marks, translation, is_present, renumbered, encoded}
+use Rattle.enc_base.specs.Names.{is_writable_byte, IsWritable}
+use Rattle.enc_marks.specs.Laws.{HasWritableNames, TranslationsCanBeNamed}
 use Rattle.enc_marks.proofs.SoundMarks.{all-passing}
-use Rattle.enc_marks.proofs.SoundAxioms.{all-append}
+use Rattle.enc_marks.proofs.SoundTypes.{all_at}
+use Rattle.enc_marks.proofs.StatedFormulas.{all-append, translation-all}
+use Rattle.enc_marks.proofs.Names.{flat_name-variable, flat_name-apply}
 
 abbrev AreBytes : List ℕ → Type 0
 AreBytes name = AllByRecursion (λ b. IsTrue (is_writable_byte b)) name
@@ -144,21 +150,110 @@ module _ (normal : Normal) (few : length normal.signature.constructors < 2 ^ 28)
             rest (subst (λ n. Own n constructors) less named.1),
           )
 
-marks-named : (c : Choices) (normal : Normal) → IsByType c →
-    length normal.signature.constructors < 2 ^ 28 → HasWritableNames normal →
-    AllByRecursion IsNamed (all_marks c normal)
-marks-named c normal by_type few named =
-    let symbols = marked_symbols c 0 normal.signature.symbols in
-    let constructors = marked_constructors normal 0 normal.signature.constructors in
-    let whole : first_fresh normal ≡ first_fresh normal - 0 = omega arith in
-    all-append IsNamed symbols (constructors ++ own_marks normal c.binding c.marking)
-    (symbols-named c 0 normal.signature.symbols named.symbols)
-    (all-append IsNamed constructors (own_marks normal c.binding c.marking)
-    (constructors-named normal few 0 normal.signature.constructors (omega arith)
-    (subst (λ n. AllByRecursion (λ (constructor : Constructor). IsWritable constructor.name)
-    (take n normal.signature.constructors)) whole named.constructors))
-    (subst (λ marking. AllByRecursion IsNamed (own_marks normal c.binding marking))
-    (sym by_type.marking) (mark-writable c.binding, tt)))
+-- ---- names of types
+
+-- the i-th of so many constructors whose names can be written
+own-at : (count : ℕ) (constructors : List Constructor) (i : ℕ) (constructor : Constructor) →
+    Own count constructors → slice_get constructors i ≡ Some constructor → i < count →
+    IsWritable constructor.name
+own-at count [] i constructor named at within = cc
+own-at zero (first ∷ constructors) i constructor named at within = absurd (omega (arith, within))
+own-at (suc count) (first ∷ constructors) zero constructor named at within =
+    let same : first ≡ constructor = cc in
+    subst (λ (one : Constructor). IsWritable one.name) same named.0
+own-at (suc count) (first ∷ constructors) (suc i) constructor named at within =
+    own-at count constructors i constructor named.1 at (omega (arith, within))
+
+module _ (normal : Normal) (few : length normal.signature.constructors < 2 ^ 28)
+    (named : HasWritableNames normal) where
+  flat_constructor-bytes : (i : ℕ) (o : Option Constructor) →
+      slice_get normal.signature.constructors i ≡ o → AreBytes (flat_constructor normal i o)
+  flat_constructor-bytes i None at = tt
+  flat_constructor-bytes zero (Some constructor) at = bytes_from (codes "i") refl
+  flat_constructor-bytes (suc i) (Some constructor) at =
+      (constructor_name-writable normal few (suc i) constructor.name
+      (omega (arith, few, slice_get_within normal.signature.constructors (suc i) constructor at))
+      (λ within. own-at (first_fresh normal) normal.signature.constructors (suc i) constructor
+      named.constructors at within)).bytes
+
+  joined-bytes : (name : List ℕ) → AreBytes name → AreBytes (codes "_" ++ name)
+  joined-bytes name bytes =
+      all-append (λ b. IsTrue (is_writable_byte b)) (codes "_") name (bytes_from (codes "_") refl)
+      bytes
+
+  arguments-bytes : (types : List Ty) →
+      AllByRecursion (λ ty. AreBytes (flat_name normal ty)) types →
+      AreBytes (flat_map (λ argument. codes "_" ++ flat_name normal argument) types)
+  arguments-bytes [] each = tt
+  arguments-bytes (ty ∷ types) each =
+      all-append (λ b. IsTrue (is_writable_byte b)) (codes "_" ++ flat_name normal ty)
+      (flat_map (λ argument. codes "_" ++ flat_name normal argument) types)
+      (joined-bytes (flat_name normal ty) each.0) (arguments-bytes types each.1)
+
+  flat_name-bytes : (ty : Ty) → AreBytes (flat_name normal ty)
+  flat_name-bytes = type_induction (λ ty. AreBytes (flat_name normal ty))
+      (λ i. subst AreBytes (sym (flat_name-variable normal i)) tt)
+      (λ i types each. subst AreBytes (sym (flat_name-apply normal i types))
+      (all-append (λ b. IsTrue (is_writable_byte b))
+      (flat_constructor normal i (slice_get normal.signature.constructors i))
+      (flat_map (λ argument. codes "_" ++ flat_name normal argument) types)
+      (flat_constructor-bytes i (slice_get normal.signature.constructors i) refl)
+      (arguments-bytes types each)))
+
+  -- a name before that of a type
+  behind-writable : (name : List ℕ) (ty : Ty) → IsWritable name →
+      IsWritable (name ++ (codes "_" ++ flat_name normal ty))
+  behind-writable name ty writable =
+      writable-append name (codes "_" ++ flat_name normal ty) writable
+      (joined-bytes (flat_name normal ty) (flat_name-bytes ty))
+
+  -- ---- marks
+
+  sort_marks-named : (binding : Binding) (s : ℕ) (types : List Ty) →
+      AllByRecursion IsNamed (sort_marks normal binding s types)
+  sort_marks-named binding s [] = tt
+  sort_marks-named binding s (ty ∷ types) = (
+    behind-writable (wanted_mark binding) ty (mark-writable binding),
+    sort_marks-named binding (s + 1) types,
+  )
+
+  own_marks-named : (binding : Binding) (marking : Marking) →
+      AllByRecursion IsNamed (own_marks normal binding marking)
+  own_marks-named binding ByType = (mark-writable binding, tt)
+  own_marks-named binding BySort = sort_marks-named binding 0 (sorts normal)
+
+  marks-named : (c : Choices) → AllByRecursion IsNamed (all_marks c normal)
+  marks-named c =
+      let symbols = marked_symbols c 0 normal.signature.symbols in
+      let constructors = marked_constructors normal 0 normal.signature.constructors in
+      let whole : first_fresh normal ≡ first_fresh normal - 0 = omega arith in
+      all-append IsNamed symbols (constructors ++ own_marks normal c.binding c.marking)
+      (symbols-named c 0 normal.signature.symbols named.symbols)
+      (all-append IsNamed constructors (own_marks normal c.binding c.marking)
+      (constructors-named normal few 0 normal.signature.constructors (omega arith)
+      (subst (λ n. AllByRecursion (λ (constructor : Constructor). IsWritable constructor.name)
+      (take n normal.signature.constructors)) whole named.constructors))
+      (own_marks-named c.binding c.marking))
+
+  -- ---- formulas
+
+  abbrev HasName : FofFormula → Type 0
+  HasName formula = IsWritable formula.name
+
+  translation-named : (c : Choices) → AllByRecursion HasName (translation c normal)
+  translation-named c =
+      translation-all c normal HasName named.formulas
+      (λ f symbol result at gives. writable-append (codes "typing_") symbol.name typing-writable
+      (all_at (λ (one : Symbol). IsWritable one.name) normal.signature.symbols f symbol
+      named.symbols at).bytes)
+      (λ by_type. last-writable c.binding)
+      (λ by_sort. each (sorts normal))
+    where
+      each : (types : List Ty) →
+          AllByRecursion (λ ty. IsWritable (sort_last_name normal c.binding ty)) types
+      each [] = tt
+      each (ty ∷ types) =
+          (behind-writable (last_name c.binding) ty (last-writable c.binding), each types)
 
 all-wanted : (marks : List MarkedSymbol) → AllByRecursion IsNamed marks →
     AllByRecursion (λ (symbol : FofSymbol). IsWritable symbol.wanted)
@@ -166,77 +261,23 @@ all-wanted : (marks : List MarkedSymbol) → AllByRecursion IsNamed marks →
 all-wanted [] named = tt
 all-wanted (one ∷ marks) named = (named.0, all-wanted marks named.1)
 
--- ---- formulas
-
-abbrev HasName : FofFormula → Type 0
-HasName formula = IsWritable formula.name
-
-alone-named : (b : Bool) (formula : FofFormula) → HasName formula →
-    AllByRecursion HasName (cond b (formula ∷ []) [])
-alone-named true formula named = (named, tt)
-alone-named false formula named = tt
-
-stated-named : (c : Choices) (normal : Normal) (formulas : List NormalFormula) →
-    AllByRecursion (λ (formula : NormalFormula). IsWritable formula.name) formulas →
-    AllByRecursion HasName (map (stated c normal) formulas)
-stated-named c normal [] named = tt
-stated-named c normal (formula ∷ formulas) named =
-    (named.0, stated-named c normal formulas named.1)
-
-typing_of-named : (c : Choices) (normal : Normal) (f : ℕ) (symbol : Symbol) (result : Option Ty) →
-    IsWritable symbol.name → AllByRecursion HasName (typing_of c normal f symbol result)
-typing_of-named c normal f symbol None named = tt
-typing_of-named c normal f symbol (Some result) named =
-    alone-named (c.typing result)
-    (axiom_named (typing_name symbol.name)
-    (typing_axiom c (all_numbers normal) normal.signature f symbol result))
-    (writable-append (codes "typing_") symbol.name typing-writable named.bytes)
-
-typing_axioms-named : (c : Choices) (normal : Normal) (f : ℕ) (symbols : List Symbol) →
-    AllByRecursion (λ (symbol : Symbol). IsWritable symbol.name) symbols →
-    AllByRecursion HasName (typing_axioms c normal f symbols)
-typing_axioms-named c normal f [] named = tt
-typing_axioms-named c normal f (symbol ∷ symbols) named =
-    all-append HasName (typing_of c normal f symbol symbol.result)
-    (typing_axioms c normal (f + 1) symbols)
-    (typing_of-named c normal f symbol symbol.result named.0)
-    (typing_axioms-named c normal (f + 1) symbols named.1)
-
-translation-named : (c : Choices) (normal : Normal) → IsByType c → HasWritableNames normal →
-    AllByRecursion HasName (translation c normal)
-unfolding translation
-translation-named c normal by_type named =
-    let symbols = normal.signature.symbols in
-    all-append HasName (map (stated c normal) normal.formulas)
-    (typing_axioms c normal 0 symbols ++ last_axioms c normal c.marking)
-    (stated-named c normal normal.formulas named.formulas)
-    (all-append HasName (typing_axioms c normal 0 symbols) (last_axioms c normal c.marking)
-    (typing_axioms-named c normal 0 symbols named.symbols)
-    (subst (λ marking. AllByRecursion HasName (last_axioms c normal marking))
-    (sym by_type.marking)
-    (alone-named (c.last (type.Var 0))
-    (axiom_named (last_name c.binding)
-    (fof.ForAll
-    (last_axiom c (all_numbers normal) normal.signature c.binding 1 (type.Var 0))))
-    (last-writable c.binding))))
-
 renumbered-named : (present : ℕ → Bool) (formulas : List FofFormula) →
-    AllByRecursion HasName formulas →
-    AllByRecursion HasName (map (renumbered present) formulas)
+    AllByRecursion (λ (formula : FofFormula). IsWritable formula.name) formulas →
+    AllByRecursion (λ (formula : FofFormula). IsWritable formula.name)
+    (map (renumbered present) formulas)
 renumbered-named present [] named = tt
 renumbered-named present (formula ∷ formulas) named =
     (named.0, renumbered-named present formulas named.1)
 
 pub translations_named : TranslationsCanBeNamed
 unfolding encoded
-translations_named c normal by_type sound named =
+translations_named c normal sound named =
+    let few = sound.signature.constructor_count in
     let formulas = translation c normal in
     let present = is_present formulas in
     let marks = all_marks c normal in
     record {
       symbols = all-wanted (passing present 0 marks)
-          (all-passing IsNamed present 0 marks
-          (marks-named c normal by_type sound.signature.constructor_count named));
-      formulas =
-          renumbered-named present formulas (translation-named c normal by_type named);
+          (all-passing IsNamed present 0 marks (marks-named normal few named c));
+      formulas = renumbered-named present formulas (translation-named normal few named c);
     }

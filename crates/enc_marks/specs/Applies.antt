@@ -1,5 +1,6 @@
 -- To which normal problems a scheme applies, and why it is refused elsewhere.
-use Rattle.std.specs.Prelude.{ℕ, ◌≡◌, Bool, true, false, not, List, [], map, eqb, filter, slice_get, Option, Some, None, IsTrue}
+use Rattle.std.specs.Prelude.{ℕ, ◌≡◌, Bool, true, false, not, List, [], map, eqb, filter, slice_get}
+use Rattle.std.specs.Prelude.{Option, Some, None, IsTrue}
 use Rattle.std.specs.List.{AllByRecursion}
 use Rattle.tf_core.specs.declared.normal.Normal.{Normal}
 use Rattle.tf_core.specs.Sorts.{sorts}
@@ -7,7 +8,8 @@ use Rattle.tf_core.specs.Sound.{is_monomorphic}
 use Rattle.tf_naked.specs.declared.place.Place.{Place}
 use Rattle.tf_naked.specs.Naked.{naked_places, first_naked, is_free}
 use Rattle.enc_marks.specs.declared.refusal.Refusal.{Refusal}
-use Rattle.enc_marks.specs.declared.refusal.Refusal.TheVariants.{NotMonomorphic, NotMonotone, TableTooLarge, Memory}
+use Rattle.enc_marks.specs.declared.refusal.Refusal.TheVariants.{NotMonomorphic, NotMonotone}
+use Rattle.enc_marks.specs.declared.refusal.Refusal.TheVariants.{TableTooLarge, Memory}
 use Rattle.enc_marks.specs.declared.scheme.Scheme.{Scheme}
 use Rattle.enc_marks.specs.declared.scheme.Scheme.TheVariants as scheme
 

@@ -12,9 +12,12 @@ use Rattle.fof_models.specs.declared.formula.FofTerm.TheVariants as term
 use Rattle.fof_models.specs.declared.formula.Fof.{Fof}
 use Rattle.fof_models.specs.declared.formula.Fof.TheVariants as fof
 use Rattle.tf_naked.specs.Covers.{covers}
-use Rattle.tf_naked.specs.Standing.{Universal}
-use Rattle.enc_marks.specs.Choices.{Choices, Binding, ByGuard, ByTag}
-use Rattle.enc_marks.specs.Translation.{Numbers, Bare, type_term, selected, tag, bind, placed_all, formula}
+use Rattle.tf_naked.specs.declared.position.Kind.TheVariants.{Universal}
+use Rattle.enc_marks.specs.declared.choices.Binding.{Binding}
+use Rattle.enc_marks.specs.declared.choices.Binding.TheVariants.{ByGuard, ByTag}
+use Rattle.enc_marks.specs.Choices.{Choices}
+use Rattle.enc_marks.specs.Translation.{Numbers, Bare, type_term, selected, tag, bind, placed_all}
+use Rattle.enc_marks.specs.Translation.{formula}
 
 -- a formula under so many universal quantifiers
 abbrev pub closed : ℕ → Fof → Fof

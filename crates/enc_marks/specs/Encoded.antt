@@ -1,6 +1,7 @@
 -- The untyped problem of a normal problem by the choices of a scheme, and what its symbols stand
 -- for.
-use Rattle.std.specs.Prelude.{ℕ, ◌+◌, Bool, true, false, List, [], ◌∷◌, ◌++◌, map, length, cond, count_by, is_none, Option, Some, None}
+use Rattle.std.specs.Prelude.{ℕ, ◌+◌, Bool, true, false, List, [], ◌∷◌, ◌++◌, map, length, cond}
+use Rattle.std.specs.Prelude.{count_by, is_none, Option, Some, None}
 use Rattle.std.specs.List.{list_any, position_or_len}
 use Rattle.tf_core.specs.declared.ty.Ty.{Ty}
 use Rattle.tf_core.specs.declared.ty.Ty.TheVariants as type
@@ -19,11 +20,16 @@ use Rattle.fof_models.specs.declared.problem.FofFormula.{FofFormula}
 use Rattle.enc_marks.specs.declared.mark.Mark.{Mark}
 use Rattle.enc_marks.specs.declared.mark.Mark.TheVariants as mark
 use Rattle.enc_marks.specs.declared.encoded.Encoded.{Encoded}
-use Rattle.enc_marks.specs.Choices.{Choices, Marking, ByType, BySort, Binding, ByGuard, ByTag}
+use Rattle.enc_marks.specs.declared.choices.Marking.{Marking}
+use Rattle.enc_marks.specs.declared.choices.Marking.TheVariants.{ByType, BySort}
+use Rattle.enc_marks.specs.declared.choices.Binding.{Binding}
+use Rattle.enc_marks.specs.declared.choices.Binding.TheVariants.{ByGuard, ByTag}
+use Rattle.enc_marks.specs.Choices.{Choices}
 use Rattle.enc_marks.specs.Translation.{Numbers}
 use Rattle.enc_marks.specs.Axioms.{closed_formula, typing_axiom, last_axiom}
 use Rattle.enc_marks.specs.Occurrence.{occurs, renumber, count_below, passing}
-use Rattle.enc_marks.specs.Names.{wanted_constructor, wanted_mark, wanted_sort_mark, typing_name, last_name, sort_last_name}
+use Rattle.enc_marks.specs.Names.{wanted_constructor, wanted_mark, wanted_sort_mark, typing_name}
+use Rattle.enc_marks.specs.Names.{last_name, sort_last_name}
 
 -- All marked symbols have numbers, in this order: symbols, constructors, then the guard or tag of
 -- all types, or those of the sorts.

@@ -6,11 +6,10 @@ pub mod Occurrence
 pub mod Names
 pub mod Encoded
 pub mod Marks
-pub mod Closures
-pub mod Flags
-pub mod Marked
-pub mod Uniform
-pub mod Writing
+pub mod Calls
 pub mod Applies
+pub mod AppliesLaws
 pub mod Rows
 pub mod Laws
+pub mod RefusalNumbers
+pub mod SortRows

@@ -1,5 +1,6 @@
 -- The names that marked symbols want, and those of axioms.
-use Rattle.std.specs.Prelude.{ℕ, zero, suc, ◌-◌, List, [], ◌++◌, length, cond, codes, leb, flat_map, slice_get, Option, Some, None}
+use Rattle.std.specs.Prelude.{ℕ, zero, suc, ◌-◌, List, [], ◌++◌, length, cond, codes, leb, flat_map}
+use Rattle.std.specs.Prelude.{slice_get, Option, Some, None}
 use Rattle.std.specs.Fmt.{decimal}
 use Rattle.tf_core.specs.declared.ty.Ty.{Ty}
 use Rattle.tf_core.specs.declared.ty.Ty.TheOpen.{Ty-F}
@@ -7,7 +8,8 @@ use Rattle.tf_core.specs.declared.ty.Ty.TheOpen as layer
 use Rattle.tf_core.specs.declared.ty.Ty.TheFolds.{fold-Ty}
 use Rattle.tf_core.specs.declared.signature.Constructor.{Constructor}
 use Rattle.tf_core.specs.declared.normal.Normal.{Normal}
-use Rattle.enc_marks.specs.Choices.{Binding, ByGuard, ByTag}
+use Rattle.enc_marks.specs.declared.choices.Binding.{Binding}
+use Rattle.enc_marks.specs.declared.choices.Binding.TheVariants.{ByGuard, ByTag}
 
 -- the number of the first constructor that was made for a type variable of the conjecture
 abbrev pub first_fresh : Normal → ℕ

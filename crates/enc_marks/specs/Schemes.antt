@@ -1,24 +1,16 @@
 -- The choices of each scheme, to be held against the tables of translations row by row.
-use Rattle.std.specs.Prelude.{Bool, true, false, not, ◌&&◌, List, [], replicate}
+use Rattle.std.specs.Prelude.{Bool, true, false, not, ◌&&◌}
 use Rattle.tf_core.specs.declared.ty.Ty.{Ty}
-use Rattle.tf_core.specs.declared.signature.Symbol.{Symbol}
 use Rattle.tf_core.specs.declared.normal.Normal.{Normal}
-use Rattle.tf_naked.specs.Covers.{kept_parameters}
 use Rattle.tf_naked.specs.Standing.{is_covering, is_positive_side, is_variable, is_universal}
 use Rattle.tf_naked.specs.Naked.{is_free}
 use Rattle.enc_marks.specs.declared.scheme.Scheme.{Scheme}
 use Rattle.enc_marks.specs.declared.scheme.Scheme.TheVariants as scheme
-use Rattle.enc_marks.specs.Choices.{Choices, ByType, BySort, ByGuard, ByTag}
-
--- all type arguments, those without a cover, or none
-abbrev pub all_types : Symbol → List Bool
-all_types symbol = replicate symbol.parameters true
-
-abbrev pub uncovered_types : Symbol → List Bool
-uncovered_types symbol = kept_parameters symbol
-
-abbrev pub no_types : Symbol → List Bool
-no_types symbol = []
+use Rattle.enc_marks.specs.declared.choices.Marking.TheVariants.{ByType, BySort}
+use Rattle.enc_marks.specs.declared.choices.Binding.TheVariants.{ByGuard, ByTag}
+use Rattle.enc_marks.specs.declared.choices.Domain.TheVariants.{Merged, Collapsed}
+use Rattle.enc_marks.specs.declared.choices.Elements.TheVariants.{Guarded, Image, Fixed, All}
+use Rattle.enc_marks.specs.Choices.{Choices, all_types, uncovered_types, no_types}
 
 -- a guard at each binder; typing axioms with a guard for each argument
 abbrev pub guards : Choices
@@ -32,6 +24,8 @@ guards = record {
   last = λ ty. true;
   marking = ByType;
   binding = ByGuard;
+  domain = Merged;
+  elements = Guarded;
 }
 
 -- a tag at each term
@@ -46,6 +40,8 @@ tags = record {
   last = λ ty. false;
   marking = ByType;
   binding = ByTag;
+  domain = Merged;
+  elements = Image;
 }
 
 -- a guard at undercover universal variables and at existential ones; premises at covers alone
@@ -60,6 +56,8 @@ guards_cover = record {
   last = λ ty. true;
   marking = ByType;
   binding = ByGuard;
+  domain = Merged;
+  elements = Guarded;
 }
 
 -- a tag at variables at covers and at sides of positive equations
@@ -74,6 +72,8 @@ tags_cover = record {
   last = λ ty. true;
   marking = ByType;
   binding = ByTag;
+  domain = Merged;
+  elements = Fixed;
 }
 
 -- type arguments, and nothing else
@@ -88,6 +88,8 @@ args = record {
   last = λ ty. false;
   marking = ByType;
   binding = ByGuard;
+  domain = Collapsed;
+  elements = All;
 }
 
 -- nothing at all
@@ -102,6 +104,8 @@ erase = record {
   last = λ ty. false;
   marking = BySort;
   binding = ByGuard;
+  domain = Collapsed;
+  elements = All;
 }
 
 -- The light and feather schemes leave out the marks of free sorts.
@@ -118,6 +122,8 @@ module _ (is_free_sort : Ty → Bool) where
     last = λ ty. not (is_free_sort ty);
     marking = BySort;
     binding = ByGuard;
+    domain = Collapsed;
+    elements = Guarded;
   }
 
   -- a tag at each term
@@ -132,6 +138,8 @@ module _ (is_free_sort : Ty → Bool) where
     last = λ ty. false;
     marking = BySort;
     binding = ByTag;
+    domain = Collapsed;
+    elements = Image;
   }
 
   -- a guard at naked universal variables and at existential ones; typing axioms without premises
@@ -146,6 +154,8 @@ module _ (is_free_sort : Ty → Bool) where
     last = λ ty. not (is_free_sort ty);
     marking = BySort;
     binding = ByGuard;
+    domain = Collapsed;
+    elements = Guarded;
   }
 
   -- a tag at naked places
@@ -161,6 +171,8 @@ module _ (is_free_sort : Ty → Bool) where
     last = λ ty. not (is_free_sort ty);
     marking = BySort;
     binding = ByTag;
+    domain = Collapsed;
+    elements = Fixed;
   }
 
 -- the choices of a scheme for a normal problem, which says what sorts are free

@@ -1,6 +1,7 @@
 -- One translation of types, terms and formulas for all schemes, by the choices that a scheme makes.
 -- A formula stands under so many binders, its depth; those of type variables are the outermost.
-use Rattle.std.specs.Prelude.{ℕ, ◌+◌, ◌-◌, Bool, true, false, List, [], ◌∷◌, ◌++◌, map, cond, get_or, slice_get, Option, Some, None}
+use Rattle.std.specs.Prelude.{ℕ, ◌+◌, ◌-◌, Bool, true, false, List, [], ◌∷◌, ◌++◌, map, cond}
+use Rattle.std.specs.Prelude.{get_or, slice_get, Option, Some, None}
 use Rattle.tf_core.specs.declared.ty.Ty.{Ty}
 use Rattle.tf_core.specs.declared.ty.Ty.TheOpen.{Ty-F}
 use Rattle.tf_core.specs.declared.ty.Ty.TheOpen as type_layer
@@ -21,8 +22,16 @@ use Rattle.fof_models.specs.declared.formula.FofTerm.TheVariants as term
 use Rattle.fof_models.specs.declared.formula.Fof.{Fof}
 use Rattle.fof_models.specs.declared.formula.Fof.TheVariants as fof
 use Rattle.tf_naked.specs.Covers.{covers}
-use Rattle.tf_naked.specs.Standing.{Position, Argument, Side, Kind, Universal, Existential, Applied, is_undercover, is_naked}
-use Rattle.enc_marks.specs.Choices.{Choices, Marking, ByType, BySort, Binding, ByGuard, ByTag}
+use Rattle.tf_naked.specs.declared.position.Position.{Position}
+use Rattle.tf_naked.specs.declared.position.Position.TheVariants.{Argument, Side}
+use Rattle.tf_naked.specs.declared.position.Kind.{Kind}
+use Rattle.tf_naked.specs.declared.position.Kind.TheVariants.{Universal, Existential, Applied}
+use Rattle.tf_naked.specs.Standing.{is_undercover, is_naked}
+use Rattle.enc_marks.specs.declared.choices.Marking.{Marking}
+use Rattle.enc_marks.specs.declared.choices.Marking.TheVariants.{ByType, BySort}
+use Rattle.enc_marks.specs.declared.choices.Binding.{Binding}
+use Rattle.enc_marks.specs.declared.choices.Binding.TheVariants.{ByGuard, ByTag}
+use Rattle.enc_marks.specs.Choices.{Choices}
 
 -- The numbers of the marked symbols: of source symbols and constructors by index, of the one guard
 -- or tag for all types, and of the guard or tag of each sort.

@@ -1,8 +1,8 @@
 ghost use Rattle.std.specs.Prelude.{◌≡◌, ◌+◌, ◌<◌, ◌^◌, ◌||◌, ℕ, eqb, length, IfOk, OnOk};
 ghost use Rattle.std.specs.List.{list_any};
-ghost use Rattle.enc_marks.specs.Closures.{closures};
+ghost use Rattle.enc_marks.specs.Calls.Closures.{closures};
 ghost use Rattle.enc_marks.specs.Encoded.{is_present};
-ghost use Rattle.enc_marks.specs.Flags.{is_set};
+ghost use Rattle.enc_marks.specs.Calls.Flags.{is_set};
 ghost use Rattle.enc_marks.specs.Occurrence.{occurs, occurs_in_term};
 
 use crate::flags::Occurring;
@@ -114,7 +114,8 @@ impl Occurring {
 
     #[cycle(add_formula)]
     fn add_formulas(&mut self, parts: &[Fof]) -> Result<(), NoMemory>
-        ensures { OnOk result ((m : ℕ) → is_set self.new m ≡ (is_set self.old m || list_any (occurs m)
+        ensures { OnOk result ((m : ℕ) → is_set self.new m
+            ≡ (is_set self.old m || list_any (occurs m)
             parts.now)) }
     {
         for part in parts {

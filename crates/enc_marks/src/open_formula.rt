@@ -1,6 +1,6 @@
 ghost use Rattle.std.specs.Prelude.{◌≡◌, IfOk};
 ghost use Rattle.enc_marks.specs.Axioms as specs;
-ghost use Rattle.enc_marks.specs.Closures.{closure_of};
+ghost use Rattle.enc_marks.specs.Calls.Closures.{closure_of};
 
 use enc_base::{Boxed, Name, NoMemory};
 use fof_models::{Fof, FofFormula, FofRole};

@@ -1,5 +1,5 @@
 ghost use Rattle.std.specs.Prelude.{◌≡◌, ℕ, map, IfOk};
-ghost use Rattle.enc_marks.specs.Flags.{is_set, number_of};
+ghost use Rattle.enc_marks.specs.Calls.Flags.{is_set, number_of};
 ghost use Rattle.enc_marks.specs.Occurrence.{count_below, renumber, renumber_term};
 
 use crate::flags::Occurring;

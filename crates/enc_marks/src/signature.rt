@@ -1,19 +1,24 @@
-ghost use Rattle.std.specs.Prelude.{◌≡◌, ◌∷◌, [], cond, IfOk, OnOk};
+ghost use Rattle.std.specs.Prelude.{◌≡◌, ◌+◌, ◌∷◌, [], cond, ℕ, length, slice_get, Some, IfOk, OnOk};
+ghost use Rattle.enc_marks.specs.Choices.{Choices};
 ghost use Rattle.enc_marks.specs.Encoded as specs;
-ghost use Rattle.enc_marks.specs.Flags.{is_set};
-ghost use Rattle.enc_marks.specs.Marked.{Holds, MarksAdded};
+ghost use Rattle.enc_marks.specs.Calls.Flags.{is_set};
+ghost use Rattle.enc_marks.specs.Calls.Marked.{Holds, MarksAdded};
 ghost use Rattle.enc_marks.specs.Names.{wanted_constructor};
 ghost use Rattle.enc_marks.specs.Occurrence.{passing};
-ghost use Rattle.enc_marks.specs.Writing.{choices_in, constructors_in, first_constructor, marks_in, numbers_in, shared_in, symbols_in};
+ghost use Rattle.enc_marks.specs.Calls.Writing.{IsShape, marked_in};
 
+use crate::choices::{Binding, Choices};
 use crate::flags::Occurring;
 use crate::mark::Mark;
 use crate::marked::Marked;
-use crate::writer::{Writer, in_32_bits};
+use crate::shape::Shape;
+use crate::tables::count_raised;
+use crate::type_writer::{TypeWriter, in_32_bits};
+use crate::writer::Writer;
 use enc_base::{List, Name, NoMemory};
 use fof_models::FofSymbol;
 use std::alloc::Global;
-use tf_core::{Constructor, Normal, Symbol};
+use tf_core::{Constructor, Normal};
 
 // what a constructor wants to be called
 fn constructor_name(
@@ -48,7 +53,10 @@ impl Marked {
     }
 
     fn push(&mut self, mark: Mark, symbol: FofSymbol) -> Result<(), NoMemory>
-        ensures { OnOk result (MarksAdded self.old self.new (record { mark = mark; symbol = symbol } ∷
+        ensures { OnOk result (MarksAdded self.old self.new (record {
+          mark = mark;
+          symbol = symbol;
+        } ∷
             [])) }
     {
         self.symbols.push(symbol)?;
@@ -56,47 +64,48 @@ impl Marked {
     }
 }
 
-impl<'a> Writer<'a> {
-    fn add_symbol(
-        &self,
-        alloc: Global,
-        marked: &mut Marked,
-        occurring: &Occurring,
-        f: usize,
-        symbol: &Symbol,
-    ) -> Result<(), NoMemory>
-        ensures { OnOk result (MarksAdded marked.old marked.new (passing (is_set occurring.now) f
-            (specs.marked_symbol (choices_in self.now) f symbol.now ∷ []))) }
-    {
-        if !occurring.has(f) {
-            return Ok(());
-        }
-        let mark = Mark::Symbol(in_32_bits(f, 0)?);
-        let count = symbol.arguments.as_slice().len();
-        let made = FofSymbol {
-            wanted: symbol.name.copy(alloc)?,
-            arity: in_32_bits(symbol.parameters as usize, count)?,
-            predicate: symbol.result.is_none(),
-        };
-        marked.push(mark, made)
-    }
+// a source symbol, as a symbol of the untyped problem
+fn symbol_of(alloc: Global, shape: &Shape) -> Result<FofSymbol, NoMemory>
+    ensures { IfOk result (λ made. (c : Choices) → IsShape c (Some shape.now.symbol.now) shape.now
+        → (f : ℕ) →
+        made ≡ (specs.marked_symbol c f shape.now.symbol.now).symbol) }
+{
+    let count = shape.symbol.arguments.as_slice().len();
+    Ok(FofSymbol {
+        wanted: shape.symbol.name.copy(alloc)?,
+        arity: in_32_bits(count_raised(shape.kept), count)?,
+        predicate: shape.symbol.result.is_none(),
+    })
+}
 
-    fn add_symbols(
-        &self,
-        alloc: Global,
-        marked: &mut Marked,
-        occurring: &Occurring,
-    ) -> Result<(), NoMemory>
-        ensures { OnOk result (MarksAdded marked.old marked.new (passing (is_set occurring.now) 0
-            (symbols_in self.now))) }
-    {
-        let symbols = self.normal.signature.symbols.as_slice();
-        for (f, symbol) in symbols.iter().enumerate() {
-            self.add_symbol(alloc, marked, occurring, f, symbol)?;
-        }
-        Ok(())
+// the guard or tag of all types
+fn shared_of(alloc: Global, binding: Binding) -> Result<FofSymbol, NoMemory>
+    ensures { IfOk result (λ made. made ≡ (specs.shared_mark binding).symbol) }
+{
+    match binding {
+        Binding::ByGuard => Ok(FofSymbol {
+            wanted: Name::from_slice(alloc, b"is")?,
+            arity: 2,
+            predicate: true,
+        }),
+        Binding::ByTag => Ok(FofSymbol {
+            wanted: Name::from_slice(alloc, b"as")?,
+            arity: 2,
+            predicate: false,
+        }),
     }
+}
 
+fn mark_of(binding: Binding) -> Mark
+    ensures { result ≡ specs.mark_of binding }
+{
+    match binding {
+        Binding::ByGuard => Mark::Guard,
+        Binding::ByTag => Mark::Tag,
+    }
+}
+
+impl<'a> TypeWriter<'a> {
     fn add_constructor(
         &self,
         alloc: Global,
@@ -105,7 +114,8 @@ impl<'a> Writer<'a> {
         i: usize,
         constructor: &Constructor,
     ) -> Result<(), NoMemory>
-        ensures { OnOk result (MarksAdded marked.old marked.new (cond occurs (specs.marked_constructor
+        ensures { OnOk result (MarksAdded marked.old marked.new (cond occurs
+            (specs.marked_constructor
             self.now.normal.now i constructor.now ∷ []) [])) }
     {
         if !occurs {
@@ -120,14 +130,17 @@ impl<'a> Writer<'a> {
         marked.push(mark, made)
     }
 
-    fn add_constructors(
+    /// Adds the constructors that occur.
+    pub fn add_constructors(
         &self,
         alloc: Global,
         marked: &mut Marked,
         occurring: &Occurring,
     ) -> Result<(), NoMemory>
         ensures { OnOk result (MarksAdded marked.old marked.new (passing (is_set occurring.now)
-            (first_constructor self.now) (constructors_in self.now))) }
+            (length
+            self.now.normal.now.signature.symbols) (specs.marked_constructors self.now.normal.now 0
+            self.now.normal.now.signature.constructors))) }
     {
         let constructors = self.normal.signature.constructors.as_slice();
         let first = self.normal.signature.symbols.as_slice().len();
@@ -138,50 +151,78 @@ impl<'a> Writer<'a> {
         Ok(())
     }
 
-    fn add_shared(
+    /// Adds the guard or tag of all types, where it occurs.
+    pub fn add_shared(
+        &self,
+        alloc: Global,
+        marked: &mut Marked,
+        occurring: &Occurring,
+        binding: Binding,
+    ) -> Result<(), NoMemory>
+        ensures { OnOk result (MarksAdded marked.old marked.new (passing (is_set occurring.now)
+            (length
+            self.now.normal.now.signature.symbols + length
+            self.now.normal.now.signature.constructors)
+            (specs.shared_mark binding ∷ []))) }
+    {
+        if !occurring.has(self.shared()? as usize) {
+            return Ok(());
+        }
+        marked.push(mark_of(binding), shared_of(alloc, binding)?)
+    }
+}
+
+impl<'a, C: Choices> Writer<'a, C> {
+    // adds the f-th symbol, where it occurs
+    fn add_symbol(
+        &self,
+        alloc: Global,
+        marked: &mut Marked,
+        occurring: &Occurring,
+        f: u32,
+    ) -> Result<(), NoMemory>
+        ensures { OnOk result (MarksAdded marked.old marked.new (passing (is_set occurring.now) f
+            (marked_in (C.choices self.now.choices.now) f (slice_get
+            self.now.types.normal.now.signature.symbols f)))) }
+    {
+        let Some(shape) = self.shape(f) else {
+            return Ok(());
+        };
+        if !occurring.has(f as usize) {
+            return Ok(());
+        }
+        marked.push(Mark::Symbol(f), symbol_of(alloc, &shape)?)
+    }
+
+    fn add_symbols(
         &self,
         alloc: Global,
         marked: &mut Marked,
         occurring: &Occurring,
     ) -> Result<(), NoMemory>
-        ensures { OnOk result (MarksAdded marked.old marked.new (passing (is_set occurring.now)
-            ((numbers_in self.now).shared) (shared_in self.now))) }
+        ensures { OnOk result (MarksAdded marked.old marked.new (passing (is_set occurring.now) 0
+            (specs.marked_symbols (C.choices self.now.choices.now) 0
+            self.now.types.normal.now.signature.symbols))) }
     {
-        if !occurring.has(self.shared()? as usize) {
-            return Ok(());
+        let count = in_32_bits(self.types.normal.signature.symbols.as_slice().len(), 0)?;
+        for f in 0..count {
+            self.add_symbol(alloc, marked, occurring, f)?;
         }
-        if self.tagged && !self.guarded {
-            let wanted = Name::from_slice(alloc, b"as")?;
-            marked.push(
-                Mark::Tag,
-                FofSymbol {
-                    wanted,
-                    arity: 2,
-                    predicate: false,
-                },
-            )
-        } else {
-            let wanted = Name::from_slice(alloc, b"is")?;
-            marked.push(
-                Mark::Guard,
-                FofSymbol {
-                    wanted,
-                    arity: 2,
-                    predicate: true,
-                },
-            )
-        }
+        Ok(())
     }
 
     /// The marked symbols that occur, and what they stand for.
     pub fn marked(&self, alloc: Global, occurring: &Occurring) -> Result<Marked, NoMemory>
-        ensures { IfOk result (λ marked. Holds marked (passing (is_set occurring.now) 0 (marks_in
-            self.now))) }
+        ensures { IfOk result (λ marked. Holds marked (passing (is_set occurring.now) 0
+            (specs.all_marks
+            (C.choices self.now.choices.now) self.now.types.normal.now))) }
     {
         let mut marked = Marked::new(alloc);
         self.add_symbols(alloc, &mut marked, occurring)?;
-        self.add_constructors(alloc, &mut marked, occurring)?;
-        self.add_shared(alloc, &mut marked, occurring)?;
+        self.types.add_constructors(alloc, &mut marked, occurring)?;
+        let binding = self.choices.binding();
+        self.types
+            .add_shared(alloc, &mut marked, occurring, binding)?;
         Ok(marked)
     }
 }

@@ -1,17 +1,23 @@
-ghost use Rattle.std.specs.Prelude.{◌≡◌, ◌++◌, ◌∷◌, [], List, IfOk, OnOk, IsTrue};
+ghost use Rattle.std.specs.Prelude.{◌≡◌, ◌++◌, ◌∷◌, [], List, slice_get, IfOk, OnOk, Some};
 ghost use Rattle.enc_marks.specs.Axioms.{typing_axiom};
-ghost use Rattle.enc_marks.specs.Closures.{closure_of, closures};
 ghost use Rattle.enc_marks.specs.Encoded as specs;
 ghost use Rattle.enc_marks.specs.Encoded.{axiom_named, role_of};
-ghost use Rattle.enc_marks.specs.Names.{typing_name};
-ghost use Rattle.enc_marks.specs.Writing.{choices_in, lasts_in, stated_in, typing_axiom_in, typing_in, typings_in};
+ghost use Rattle.enc_marks.specs.Names.{last_name, typing_name};
+ghost use Rattle.enc_marks.specs.Calls.Closures.{closure_of, closures};
+ghost use Rattle.enc_marks.specs.Calls.Writing.{IsShape, last_in, typing_axiom_in, typing_in};
 
+use crate::choices::{Binding, Choices};
+use crate::kinds::Kinds;
 use crate::open_formula::OpenFormula;
-use crate::writer::{Writer, in_32_bits};
+use crate::scope::Scope;
+use crate::shape::Shape;
+use crate::type_writer::in_32_bits;
+use crate::writer::Writer;
 use enc_base::{List, Name, NoMemory};
 use fof_models::FofRole;
 use std::alloc::Global;
-use tf_core::{NormalFormula, Symbol, Ty};
+use tf_core::{NormalFormula, Ty};
+use tf_naked::universal_binders;
 
 /// A name behind another.
 pub fn joined(alloc: Global, first: &[u8], second: &[u8]) -> Result<Name, NoMemory>
@@ -33,100 +39,150 @@ fn role(negated: bool) -> FofRole
     }
 }
 
-impl<'a> Writer<'a> {
+// what the last axiom is called
+fn axiom_name(alloc: Global, binding: Binding) -> Result<Name, NoMemory>
+    ensures { IfOk result (λ name. name ≡ last_name binding) }
+{
+    match binding {
+        Binding::ByGuard => Name::from_slice(alloc, b"inhabitation"),
+        Binding::ByTag => Name::from_slice(alloc, b"tag_idempotence"),
+    }
+}
+
+impl<'a, C: Choices> Writer<'a, C> {
     fn stated(&self, alloc: Global, formula: &NormalFormula) -> Result<OpenFormula, NoMemory>
-        ensures { IfOk result (λ made. closure_of made ≡ stated_in self.now formula.now) }
+        ensures { IfOk result (λ made. closure_of made ≡ specs.stated (C.choices
+            self.now.choices.now)
+            self.now.types.normal.now formula.now) }
     {
+        let signature = &self.types.normal.signature;
+        let binders = universal_binders(alloc, signature, self.covers, &formula.body)?;
+        let mut scope = Scope {
+            kinds: Kinds::new(alloc),
+            ahead: binders.as_slice(),
+        };
+        let body = self.formula(alloc, &formula.body, formula.type_variables, &mut scope)?;
         Ok(OpenFormula {
             name: formula.name.copy(alloc)?,
             role: role(formula.negated),
             binders: formula.type_variables,
-            body: self.formula(alloc, &formula.body, formula.type_variables)?,
+            body,
         })
     }
 
     fn typing(
         &self,
         alloc: Global,
-        f: usize,
-        symbol: &Symbol,
+        f: u32,
+        shape: &Shape,
         value: &Ty,
     ) -> Result<OpenFormula, NoMemory>
-        requires guarded { IsTrue self.now.guarded }
-        ensures exact { IfOk result (λ made. closure_of made ≡ axiom_named (typing_name symbol.now.name) (typing_axiom_in
-            self.now f symbol.now value.now)) }
+        requires shape { IsShape (C.choices self.now.choices.now) (Some shape.now.symbol.now)
+            shape.now }
+        ensures exact { IfOk result (λ made. closure_of made ≡ axiom_named (typing_name
+            shape.now.symbol.now.name) (typing_axiom_in (C.choices self.now.choices.now)
+            self.now.types.normal.now f shape.now.symbol.now value.now)) }
     {
-        let number = in_32_bits(f, 0)?;
-        let count = symbol.arguments.as_slice().len();
-        let binders = in_32_bits(symbol.parameters as usize, count)?;
+        let count = shape.symbol.arguments.as_slice().len();
+        let binders = in_32_bits(shape.symbol.parameters as usize, count)?;
         Ok(OpenFormula {
-            name: joined(alloc, b"typing_", symbol.name.as_slice())?,
+            name: joined(alloc, b"typing_", shape.symbol.name.as_slice())?,
             role: FofRole::Axiom,
             binders,
-            body: self.typing_axiom(alloc, number, symbol, value, binders)?,
+            body: self.typing_axiom(alloc, f, shape, value, binders)?,
         })
     }
 
-    fn add_typing(
+    // adds the typing axiom of a function with this result type, where it has one
+    fn add_typing_of(
         &self,
         alloc: Global,
         made: &mut List<OpenFormula>,
-        f: usize,
-        symbol: &Symbol,
+        f: u32,
+        shape: &Shape,
+        value: &Ty,
     ) -> Result<(), NoMemory>
-        requires guarded { IsTrue self.now.guarded }
-        ensures exact { OnOk result (closures made.new ≡ closures made.old ++ typing_in self.now f symbol.now) }
+        requires shape { IsShape (C.choices self.now.choices.now) (Some shape.now.symbol.now)
+            shape.now }
+        ensures exact { OnOk result (closures made.new ≡ closures made.old ++ specs.typing_of
+            (C.choices
+            self.now.choices.now) self.now.types.normal.now f shape.now.symbol.now (Some
+            value.now)) }
     {
-        if let Some(value) = &symbol.result {
-            made.push(self.typing(alloc, f, symbol, value)?)?;
+        if self.choices.typing(value) {
+            made.push(self.typing(alloc, f, shape, value)?)?;
         }
         Ok(())
     }
 
-    fn add_typings(&self, alloc: Global, made: &mut List<OpenFormula>) -> Result<(), NoMemory>
-        requires guarded { IsTrue self.now.guarded }
-        ensures exact { OnOk result (closures made.new ≡ closures made.old ++ typings_in self.now) }
+    // adds the typing axiom of the f-th symbol, where it has one
+    fn add_typing(
+        &self,
+        alloc: Global,
+        made: &mut List<OpenFormula>,
+        f: u32,
+    ) -> Result<(), NoMemory>
+        ensures { OnOk result (closures made.new ≡ closures made.old ++ typing_in (C.choices
+            self.now.choices.now) self.now.types.normal.now f (slice_get
+            self.now.types.normal.now.signature.symbols f)) }
     {
-        let symbols = self.normal.signature.symbols.as_slice();
-        for (f, symbol) in symbols.iter().enumerate() {
-            self.add_typing(alloc, made, f, symbol)?;
+        let Some(shape) = self.shape(f) else {
+            return Ok(());
+        };
+        match &shape.symbol.result {
+            Some(value) => self.add_typing_of(alloc, made, f, &shape, value),
+            None => Ok(()),
+        }
+    }
+
+    fn add_typings(&self, alloc: Global, made: &mut List<OpenFormula>) -> Result<(), NoMemory>
+        ensures { OnOk result (closures made.new ≡ closures made.old ++ specs.typing_axioms
+            (C.choices
+            self.now.choices.now) self.now.types.normal.now 0
+            self.now.types.normal.now.signature.symbols) }
+    {
+        let count = in_32_bits(self.types.normal.signature.symbols.as_slice().len(), 0)?;
+        for f in 0..count {
+            self.add_typing(alloc, made, f)?;
         }
         Ok(())
     }
 
     fn last(&self, alloc: Global) -> Result<OpenFormula, NoMemory>
-        requires guarded { IsTrue self.now.guarded }
-        ensures exact { IfOk result (λ made. closures (made ∷ []) ≡ lasts_in self.now) }
+        ensures { IfOk result (λ made. closure_of made ≡ axiom_named (last_name (C.choices
+            self.now.choices.now).binding) (last_in (C.choices self.now.choices.now)
+            self.now.types.normal.now)) }
     {
         Ok(OpenFormula {
-            name: Name::from_slice(alloc, b"inhabitation")?,
+            name: axiom_name(alloc, self.choices.binding())?,
             role: FofRole::Axiom,
             binders: 1,
-            body: self.inhabitation(alloc)?,
+            body: self.last_axiom(alloc)?,
         })
     }
 
-    fn add_axioms(&self, alloc: Global, made: &mut List<OpenFormula>) -> Result<(), NoMemory>
-        ensures { OnOk result (closures made.new ≡ closures made.old ++ (typings_in self.now ++ lasts_in self.now)) }
+    // adds the last axiom, where there is one
+    fn add_last(&self, alloc: Global, made: &mut List<OpenFormula>) -> Result<(), NoMemory>
+        ensures { OnOk result (closures made.new ≡ closures made.old ++ specs.type_axioms (C.choices
+            self.now.choices.now) self.now.types.normal.now) }
     {
-        if self.guarded {
-            self.add_typings(alloc, made)?;
-            made.push(self.last(alloc)?)
-        } else {
-            Ok(())
+        if self.choices.last(&Ty::Var(0)) {
+            made.push(self.last(alloc)?)?;
         }
+        Ok(())
     }
 
     /// The formulas, the typing axioms and the last axiom, each below its outermost quantifiers.
     pub fn translation(&self, alloc: Global) -> Result<List<OpenFormula>, NoMemory>
-        ensures { IfOk result (λ made. closures made ≡ specs.translation (choices_in self.now)
-            self.now.normal.now) }
+        ensures { IfOk result (λ made. closures made ≡ specs.translation (C.choices
+            self.now.choices.now) self.now.types.normal.now) }
     {
         let mut made = List::new(alloc);
-        for formula in self.normal.formulas.as_slice() {
+        for formula in self.types.normal.formulas.as_slice() {
             made.push(self.stated(alloc, formula)?)?;
         }
-        self.add_axioms(alloc, &mut made)?;
+        self.add_typings(alloc, &mut made)?;
+        self.add_last(alloc, &mut made)?;
         Ok(made)
     }
 }

@@ -1,20 +1,78 @@
-ghost use Rattle.std.specs.Prelude.{◌≡◌, ◌∷◌, [], List, map, IfOk, MatchOption, Some, None};
+ghost use Rattle.std.specs.Prelude.{◌≡◌, ◌++◌, ◌∷◌, [], List, map, cond, get_or, slice_get, IfOk, OnOk, Some, false};
 ghost use Rattle.tf_core.specs.Types.{instantiate};
-ghost use Rattle.tf_naked.specs.Standing.{Kind};
-ghost use Rattle.enc_marks.specs.Writing.{arguments_in, kept_in, numbers_in, placed_in, symbol_in, term_in, type_term_in};
+ghost use Rattle.tf_naked.specs.declared.position.Position.TheVariants.{Argument};
+ghost use Rattle.enc_marks.specs.Translation.{selected};
+ghost use Rattle.enc_marks.specs.Calls.Writing.{IsShape, arguments_in, bare_in, placed_in, type_term_in};
 
+use crate::choices::Choices;
+use crate::kinds::Kinds;
+use crate::shape::Shape;
+use crate::type_writer::TypeWriter;
 use crate::writer::Writer;
 use enc_base::{List, NoMemory};
 use fof_models::FofTerm;
 use std::alloc::Global;
-use tf_core::{Symbol, Term, Ty};
+use tf_core::{Term, Ty};
+use tf_naked::{Kind, Position};
 
-impl<'a> Writer<'a> {
+/// The i-th flag; those past the end are down.
+pub fn flag_at(flags: &[bool], i: usize) -> bool
+    ensures { result ≡ get_or flags.now i false }
+{
+    flags.get(i).copied().unwrap_or(false)
+}
+
+impl<'a> TypeWriter<'a> {
+    /// The types that are written, as terms.
+    pub fn kept_types(
+        &self,
+        alloc: Global,
+        kept: &[bool],
+        types: &[Ty],
+        depth: u32,
+    ) -> Result<List<FofTerm>, NoMemory>
+        ensures { IfOk result (λ made. made ≡ map (type_term_in self.now.normal.now depth) (selected
+            kept.now types.now)) }
+    {
+        let mut made = List::new(alloc);
+        for (i, ty) in types.iter().enumerate() {
+            self.add_type(alloc, &mut made, flag_at(kept, i), ty, depth)?;
+        }
+        Ok(made)
+    }
+
+    // adds a type, where it is written
+    fn add_type(
+        &self,
+        alloc: Global,
+        made: &mut List<FofTerm>,
+        kept: bool,
+        ty: &Ty,
+        depth: u32,
+    ) -> Result<(), NoMemory>
+        ensures { OnOk result (made.new ≡ made.old ++ cond kept (type_term_in self.now.normal.now
+            depth
+            ty.now ∷ []) []) }
+    {
+        if kept {
+            made.push(self.type_term(alloc, ty, depth)?)?;
+        }
+        Ok(())
+    }
+}
+
+impl<'a, C: Choices> Writer<'a, C> {
     /// A term under so many binders, without a tag of its own.
     #[cycle(term)]
-    pub fn term(&self, alloc: Global, term: &Term, depth: u32) -> Result<FofTerm, NoMemory>
-        ensures { IfOk result (λ made. (kinds : List Kind) → made ≡ term_in self.now depth kinds
-            term.now) }
+    pub fn term(
+        &self,
+        alloc: Global,
+        term: &Term,
+        depth: u32,
+        kinds: &Kinds,
+    ) -> Result<FofTerm, NoMemory>
+        ensures { IfOk result (λ made. made ≡ (bare_in (C.choices self.now.choices.now)
+            self.now.types.normal.now depth kinds.now term.now).term) }
     {
         match term {
             Term::Var(i) => Ok(FofTerm::Var(*i)),
@@ -25,6 +83,7 @@ impl<'a> Writer<'a> {
                     *f,
                     types.as_slice(),
                     depth,
+                    kinds,
                 )?;
                 Ok(FofTerm::Apply(*f, arguments))
             }
@@ -40,21 +99,16 @@ impl<'a> Writer<'a> {
         f: u32,
         types: &[Ty],
         depth: u32,
+        kinds: &Kinds,
     ) -> Result<List<FofTerm>, NoMemory>
-        ensures { IfOk result (λ made. (kinds : List Kind) → made ≡ arguments_in self.now depth kinds
-            (symbol_in self.now f) types.now terms.now) }
+        ensures { IfOk result (λ made. made ≡ arguments_in (C.choices self.now.choices.now)
+            self.now.types.normal.now depth kinds.now (slice_get
+            self.now.types.normal.now.signature.symbols f) types.now terms.now) }
     {
-        match self.symbol(f) {
-            Some(symbol) => self.applied(alloc, terms, symbol, types, depth),
+        match self.shape(f) {
+            Some(shape) => self.applied(alloc, terms, &shape, types, depth, kinds),
             None => Ok(List::new(alloc)),
         }
-    }
-
-    fn symbol(&self, f: u32) -> Option<&Symbol>
-        ensures { MatchOption result (symbol_in self.now f ≡ None) (λ symbol. symbol_in self.now f ≡
-            Some symbol.now) }
-    {
-        self.normal.signature.symbols.as_slice().get(f as usize)
     }
 
     #[cycle(term)]
@@ -62,91 +116,101 @@ impl<'a> Writer<'a> {
         &self,
         alloc: Global,
         terms: &[Term],
-        symbol: &Symbol,
+        shape: &Shape,
         types: &[Ty],
         depth: u32,
+        kinds: &Kinds,
     ) -> Result<List<FofTerm>, NoMemory>
-        ensures { IfOk result (λ made. (kinds : List Kind) → made ≡ arguments_in self.now depth kinds
-            (Some symbol.now) types.now terms.now) }
+        requires shape { IsShape (C.choices self.now.choices.now) (Some shape.now.symbol.now)
+            shape.now }
+        ensures exact { IfOk result (λ made. made ≡ arguments_in (C.choices self.now.choices.now)
+            self.now.types.normal.now depth kinds.now (Some shape.now.symbol.now) types.now
+            terms.now) }
     {
-        let mut made = self.kept_types(alloc, symbol, types, depth)?;
-        let count = symbol.arguments.as_slice().len().min(terms.len());
+        let mut made = self.types.kept_types(alloc, shape.kept, types, depth)?;
+        let declared = shape.symbol.arguments.as_slice();
+        let count = declared.len().min(terms.len());
         for i in 0..count {
-            let term = self.term(alloc, &terms[i], depth)?;
-            let ty = &symbol.arguments.as_slice()[i];
-            made.push(self.placed(alloc, term, ty, types, depth)?)?;
+            let cover = flag_at(shape.covers, i);
+            let term = self.argument(alloc, &terms[i], cover, &declared[i], types, depth, kinds)?;
+            made.push(term)?;
         }
         Ok(made)
     }
 
-    /// The types for a symbol's parameters, as terms.
-    pub fn kept_types(
+    // a term in an argument place of this declared type
+    #[cycle(term)]
+    fn argument(
         &self,
         alloc: Global,
-        symbol: &Symbol,
+        term: &Term,
+        cover: bool,
+        ty: &Ty,
         types: &[Ty],
         depth: u32,
-    ) -> Result<List<FofTerm>, NoMemory>
-        ensures { IfOk result (λ made. made ≡ map (type_term_in self.now depth) (kept_in self.now
-            symbol.now types.now)) }
+        kinds: &Kinds,
+    ) -> Result<FofTerm, NoMemory>
+        ensures { IfOk result (λ made. made ≡ placed_in (C.choices self.now.choices.now)
+            self.now.types.normal.now depth (Argument cover) (instantiate types.now ty.now) (bare_in
+            (C.choices self.now.choices.now) self.now.types.normal.now depth kinds.now term.now)) }
     {
-        let count = types.len().min(symbol.parameters as usize);
-        self.type_terms(alloc, &types[..count], depth)
+        let kind = kinds.kind_of(term);
+        let made = self.term(alloc, term, depth, kinds)?;
+        self.placed(
+            alloc,
+            made,
+            Position::Argument(cover),
+            kind,
+            ty,
+            types,
+            depth,
+        )
     }
 
-    /// A term of an instance of a type, with its tag where terms have tags.
-    pub fn placed(
+    // a term of an instance of a type in its position, with its tag where it has one there
+    fn placed(
         &self,
         alloc: Global,
         term: FofTerm,
+        position: Position,
+        kind: Kind,
         ty: &Ty,
         types: &[Ty],
         depth: u32,
     ) -> Result<FofTerm, NoMemory>
-        ensures { IfOk result (λ made. made ≡ placed_in self.now depth (instantiate types.now ty.now)
-            term) }
+        ensures { IfOk result (λ made. made ≡ placed_in (C.choices self.now.choices.now)
+            self.now.types.normal.now depth position (instantiate types.now ty.now) (record {
+              kind = kind;
+              term = term;
+            })) }
     {
-        if self.tagged {
-            let ty = self.instance(alloc, ty, types, depth)?;
-            self.applied_mark(alloc, ty, term)
+        // the instance isn't made: whether it has a tag is seen at the declared type
+        if self.choices.tagged(position, kind, ty) {
+            let ty = self.types.instance(alloc, ty, types, depth)?;
+            self.types.tag(alloc, ty, term)
         } else {
             Ok(term)
         }
     }
 
-    /// A term of a type, with its tag where terms have tags.
+    /// A term of a type in its position, with its tag where it has one there.
     pub fn typed(
         &self,
         alloc: Global,
         term: FofTerm,
+        position: Position,
+        kind: Kind,
         ty: &Ty,
         depth: u32,
     ) -> Result<FofTerm, NoMemory>
-        ensures { IfOk result (λ made. made ≡ placed_in self.now depth ty.now term) }
+        ensures { IfOk result (λ made. made ≡ placed_in (C.choices self.now.choices.now)
+            self.now.types.normal.now depth position ty.now (record { kind = kind; term = term })) }
     {
-        if self.tagged {
-            let ty = self.type_term(alloc, ty, depth)?;
-            self.applied_mark(alloc, ty, term)
+        if self.choices.tagged(position, kind, ty) {
+            let ty = self.types.type_term(alloc, ty, depth)?;
+            self.types.tag(alloc, ty, term)
         } else {
             Ok(term)
         }
     }
-
-    // the tag of a type and a term
-    fn applied_mark(&self, alloc: Global, ty: FofTerm, term: FofTerm) -> Result<FofTerm, NoMemory>
-        ensures { IfOk result (λ made. made ≡ FofTerm.Apply (numbers_in self.now).shared (ty ∷ term ∷
-            [])) }
-    {
-        Ok(FofTerm::Apply(self.shared()?, pair(alloc, ty, term)?))
-    }
-}
-
-/// A list of two.
-pub fn pair<T: Drop>(alloc: Global, first: T, second: T) -> Result<List<T>, NoMemory>
-    ensures { IfOk result (λ items. items ≡ first ∷ second ∷ []) }
-{
-    let mut items = List::new(alloc);
-    items.push(first)?;
-    items.push(second)?;
-    Ok(items)
 }

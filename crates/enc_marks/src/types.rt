@@ -4,7 +4,7 @@ ghost use Rattle.enc_marks.specs.Marks.{is_constructor, constructor_number, note
 ghost use Rattle.enc_marks.specs.Translation as specs;
 
 use crate::mark::Mark;
-use crate::writer::type_variable;
+use crate::type_writer::type_variable;
 use enc_base::{List, NoMemory};
 use fof_models::FofTerm;
 use std::alloc::Global;
@@ -17,7 +17,8 @@ use tf_core::Ty;
 /// is that of reading the type and the marks once.
 pub fn type_term(alloc: Global, ty: &Ty, marks: &[Mark], depth: u32) -> Result<FofTerm, NoMemory>
     requires count { length marks.now < 2 ^ 32 }
-    ensures exact { IfOk result (λ t. t ≡ specs.type_term (constructor_number marks.now) depth ty.now) }
+    ensures exact { IfOk result (λ t. t
+        ≡ specs.type_term (constructor_number marks.now) depth ty.now) }
 {
     let numbers = constructor_numbers(alloc, marks)?;
     let unmarked = marks.len() as u32;
@@ -27,7 +28,8 @@ pub fn type_term(alloc: Global, ty: &Ty, marks: &[Mark], depth: u32) -> Result<F
 // the numbers of the constructors that are marked
 fn constructor_numbers(alloc: Global, marks: &[Mark]) -> Result<HashMap<u32, u32>, NoMemory>
     requires count { length marks.now < 2 ^ 32 }
-    ensures { IfOk result (λ numbers. (c : ℕ) → hash.get nat_eq numbers c ≡ position (is_constructor c)
+    ensures { IfOk result (λ numbers. (c : ℕ) → hash.get nat_eq numbers c
+        ≡ position (is_constructor c)
         marks.now) }
 {
     let mut numbers = HashMap::new(alloc);
@@ -39,7 +41,8 @@ fn constructor_numbers(alloc: Global, marks: &[Mark]) -> Result<HashMap<u32, u32
 
 // gives a marked constructor this number, unless it has one
 fn note(numbers: &mut HashMap<u32, u32>, mark: &Mark, number: u32) -> Result<(), NoMemory>
-    ensures { OnOk result ((c : ℕ) → hash.get nat_eq numbers.new c ≡ noted (hash.get nat_eq numbers.old
+    ensures { OnOk result ((c : ℕ) → hash.get nat_eq numbers.new c
+        ≡ noted (hash.get nat_eq numbers.old
         c) (is_constructor c mark.now) number) }
 {
     if let Mark::Constructor(c) = mark {
@@ -86,7 +89,8 @@ fn all_numbered(
     depth: u32,
     types: &[Ty],
 ) -> Result<List<FofTerm>, NoMemory>
-    ensures { IfOk result (λ terms. terms ≡ map (specs.type_term (number_in numbers.now unmarked) depth)
+    ensures { IfOk result (λ terms. terms
+        ≡ map (specs.type_term (number_in numbers.now unmarked) depth)
         types.now) }
 {
     let mut terms = List::new(alloc);

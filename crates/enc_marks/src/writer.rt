@@ -1,141 +1,46 @@
-ghost use Rattle.std.specs.Prelude.{◌≡◌, ◌+◌, ◌-◌, map, get_or, IfOk};
-ghost use Rattle.tf_core.specs.declared.ty.Ty.TheVariants.{Var};
-ghost use Rattle.tf_core.specs.Types.{instantiate};
-ghost use Rattle.enc_marks.specs.Writing.{numbers_in, type_term_in};
+ghost use Rattle.std.specs.Prelude.{◌≡◌, map, slice_get, MatchOption, None};
+ghost use Rattle.tf_naked.specs.Covers as naked;
+ghost use Rattle.enc_marks.specs.declared.choices.Marking.TheVariants.{ByType};
+ghost use Rattle.enc_marks.specs.Calls.Writing.{IsShape};
 
-use enc_base::{List, NoMemory};
-use fof_models::FofTerm;
-use std::alloc::Global;
-use tf_core::{Normal, Ty};
+use crate::choices::Choices;
+use crate::shape::Shape;
+use crate::type_writer::TypeWriter;
+use enc_base::List;
 
-/// Writes the formulas of a normal problem by a scheme that treats all terms, variables and types
-/// alike. The symbols have the numbers of all marked symbols, whether they occur or not.
-#[derive(Clone, Copy)]
-pub struct Writer<'a> {
-    /// Whether every term has its tag.
-    pub tagged: bool,
-    /// Whether every variable and every function has its guard.
-    pub guarded: bool,
-    pub normal: &'a Normal,
+/// Writes the formulas of a normal problem by the choices of a scheme that has one guard or tag for
+/// all types.
+#[derive(Drop)]
+pub struct Writer<'a, C: Choices> {
+    pub choices: &'a C,
+    pub types: TypeWriter<'a>,
+    /// The covers of each symbol.
+    pub covers: &'a [List<bool>],
+    /// Of each symbol, the type arguments that are written.
+    pub kept: &'a [List<bool>],
+    ghost by_type: { (C.choices choices.now).marking ≡ ByType },
+    ghost covers_are: { covers.now ≡ map naked.covers types.normal.now.signature.symbols },
+    ghost kept_are: { kept.now ≡ map (C.choices choices.now).keeps
+        types.normal.now.signature.symbols },
 }
 
-/// A sum of counts. One beyond 32 bits, which no sound problem has, is taken for want of memory.
-pub fn in_32_bits(a: usize, b: usize) -> Result<u32, NoMemory>
-    ensures { IfOk result (λ sum. sum ≡ a + b) }
-{
-    match a.checked_add(b) {
-        Some(sum) => {
-            if sum <= u32::MAX as usize {
-                Ok(sum as u32)
-            } else {
-                Err(NoMemory)
-            }
-        }
-        None => Err(NoMemory),
-    }
-}
-
-/// A type variable under so many binders.
-pub fn type_variable(i: u32, depth: u32) -> FofTerm
-    ensures { result ≡ FofTerm.Var (depth - (i + 1)) }
-{
-    FofTerm::Var(depth.saturating_sub(i).saturating_sub(1))
-}
-
-impl<'a> Writer<'a> {
-    // the number of a constructor's function
-    fn constructor(&self, c: u32) -> Result<u32, NoMemory>
-        ensures { IfOk result (λ number. number ≡ (numbers_in self.now).constructor c) }
+impl<'a, C: Choices> Writer<'a, C> {
+    /// The f-th symbol.
+    pub fn shape(&self, f: u32) -> Option<Shape<'a>>
+        ensures { MatchOption result (slice_get self.now.types.normal.now.signature.symbols f ≡
+            None)
+            (IsShape (C.choices self.now.choices.now) (slice_get
+            self.now.types.normal.now.signature.symbols
+            f)) }
     {
-        in_32_bits(self.normal.signature.symbols.as_slice().len(), c as usize)
-    }
-
-    /// The number of the guard or the tag.
-    pub fn shared(&self) -> Result<u32, NoMemory>
-        ensures { IfOk result (λ number. number ≡ (numbers_in self.now).shared) }
-    {
-        let symbols = self.normal.signature.symbols.as_slice().len();
-        in_32_bits(symbols, self.normal.signature.constructors.as_slice().len())
-    }
-
-    /// A type as a term.
-    #[cycle(type_term)]
-    pub fn type_term(&self, alloc: Global, ty: &Ty, depth: u32) -> Result<FofTerm, NoMemory>
-        ensures { IfOk result (λ t. t ≡ type_term_in self.now depth ty.now) }
-    {
-        match ty {
-            Ty::Var(i) => Ok(type_variable(*i, depth)),
-            Ty::Apply(c, types) => {
-                let number = self.constructor(*c)?;
-                let terms = self.type_terms(alloc, types.as_slice(), depth)?;
-                Ok(FofTerm::Apply(number, terms))
-            }
-        }
-    }
-
-    /// Types as terms.
-    #[cycle(type_term)]
-    pub fn type_terms(
-        &self,
-        alloc: Global,
-        types: &[Ty],
-        depth: u32,
-    ) -> Result<List<FofTerm>, NoMemory>
-        ensures { IfOk result (λ terms. terms ≡ map (type_term_in self.now depth) types.now) }
-    {
-        let mut terms = List::new(alloc);
-        for ty in types {
-            terms.push(self.type_term(alloc, ty, depth)?)?;
-        }
-        Ok(terms)
-    }
-
-    /// An instance of a type as a term. The instance isn't made.
-    #[cycle(instance)]
-    pub fn instance(
-        &self,
-        alloc: Global,
-        ty: &Ty,
-        types: &[Ty],
-        depth: u32,
-    ) -> Result<FofTerm, NoMemory>
-        ensures { IfOk result (λ t. t ≡ type_term_in self.now depth (instantiate types.now ty.now)) }
-    {
-        match ty {
-            Ty::Var(i) => self.given(alloc, *i, types, depth),
-            Ty::Apply(c, arguments) => {
-                let number = self.constructor(*c)?;
-                let terms = self.instances(alloc, arguments.as_slice(), types, depth)?;
-                Ok(FofTerm::Apply(number, terms))
-            }
-        }
-    }
-
-    #[cycle(instance)]
-    fn instances(
-        &self,
-        alloc: Global,
-        arguments: &[Ty],
-        types: &[Ty],
-        depth: u32,
-    ) -> Result<List<FofTerm>, NoMemory>
-        ensures { IfOk result (λ terms. terms ≡ map (type_term_in self.now depth) (map (instantiate
-            types.now) arguments.now)) }
-    {
-        let mut terms = List::new(alloc);
-        for ty in arguments {
-            terms.push(self.instance(alloc, ty, types, depth)?)?;
-        }
-        Ok(terms)
-    }
-
-    // the type that is given for a variable, as a term
-    fn given(&self, alloc: Global, i: u32, types: &[Ty], depth: u32) -> Result<FofTerm, NoMemory>
-        ensures { IfOk result (λ t. t ≡ type_term_in self.now depth (get_or types.now i (Var i))) }
-    {
-        match types.get(i as usize) {
-            Some(ty) => self.type_term(alloc, ty, depth),
-            None => Ok(type_variable(i, depth)),
-        }
+        let f = f as usize;
+        let symbol = self.types.normal.signature.symbols.as_slice().get(f)?;
+        let covers = self.covers.get(f)?.as_slice();
+        let kept = self.kept.get(f)?.as_slice();
+        Some(Shape {
+            symbol,
+            covers,
+            kept,
+        })
     }
 }

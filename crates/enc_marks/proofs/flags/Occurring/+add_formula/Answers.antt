@@ -2,7 +2,7 @@ use Rattle.std.proofs.Common.{◌||◌, List, ap, sym, ◌∙◌, eqb}
 use Rattle.std.specs.List.{list_any}
 use Rattle.fof_models.specs.declared.formula.Fof.{Fof}
 use Rattle.fof_models.specs.declared.formula.FofTerm.{FofTerm}
-use Rattle.enc_marks.specs.Flags.{is_set}
+use Rattle.enc_marks.specs.Calls.Flags.{is_set}
 use Rattle.enc_marks.specs.Occurrence.{occurs_in_term, occurs}
 use Rattle.enc_marks.proofs.Occurrence.{occurs-true, occurs-false, occurs-atom, occurs-equal, occurs-not, occurs-and, occurs-or, occurs-implies, occurs-for_all, occurs-exists}
 use Rattle.enc_marks.proofs.Results.{on_ok}

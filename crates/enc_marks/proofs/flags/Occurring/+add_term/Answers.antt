@@ -1,6 +1,6 @@
 use Rattle.std.proofs.Common.{◌||◌, ap, sym, ◌∙◌, eqb}
 use Rattle.std.specs.List.{list_any}
-use Rattle.enc_marks.specs.Flags.{is_set}
+use Rattle.enc_marks.specs.Calls.Flags.{is_set}
 use Rattle.enc_marks.specs.Occurrence.{occurs_in_term}
 use Rattle.enc_marks.proofs.Occurrence.{occurs_in_term-variable, occurs_in_term-apply}
 use Rattle.enc_marks.proofs.Results.{on_ok}

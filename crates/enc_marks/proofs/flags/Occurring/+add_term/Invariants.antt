@@ -1,6 +1,6 @@
 use Rattle.std.proofs.Common.{take}
 use Rattle.std.specs.List.{list_any}
-use Rattle.enc_marks.specs.Flags.{is_set}
+use Rattle.enc_marks.specs.Calls.Flags.{is_set}
 use Rattle.enc_marks.specs.Occurrence.{occurs_in_term}
 use Rattle.enc_marks.proofs.Added.{Added}
 use Rattle.enc_marks.proofs.flags.Occurring.+add_term.Given as goal

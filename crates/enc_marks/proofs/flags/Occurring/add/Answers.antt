@@ -1,5 +1,5 @@
 use Rattle.std.proofs.Common.{◌||◌, ap, ◌∙◌, eqb}
-use Rattle.enc_marks.specs.Flags.{is_set}
+use Rattle.enc_marks.specs.Calls.Flags.{is_set}
 use Rattle.enc_marks.proofs.Added.{get_or-raised}
 use Rattle.enc_marks.proofs.flags.Occurring.add.Goals as goal
 

@@ -1,6 +1,6 @@
 use Rattle.std.proofs.Common.{◌+◌, ◌-◌, Bool, List, ◌++◌, vec_len, get_or, replicate, ap, ◌∙◌, arith, false}
 use Rattle.std.proofs.lemmas.List.{take_all}
-use Rattle.enc_marks.specs.Flags.{is_set}
+use Rattle.enc_marks.specs.Calls.Flags.{is_set}
 use Rattle.enc_marks.proofs.Added.{get_or-grown}
 use Rattle.enc_marks.proofs.flags.Occurring.grow.Goals as goal
 

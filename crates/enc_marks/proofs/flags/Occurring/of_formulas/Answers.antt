@@ -2,7 +2,7 @@ use Rattle.std.proofs.Common.{◌||◌, Bool, List, ap, sym, ◌∙◌, false, g
 use Rattle.std.specs.List.{list_any}
 use Rattle.std.proofs.lemmas.List.{take_all}
 use Rattle.enc_marks.specs.declared.open_formula.OpenFormula.{OpenFormula}
-use Rattle.enc_marks.specs.Flags.{is_set}
+use Rattle.enc_marks.specs.Calls.Flags.{is_set}
 use Rattle.enc_marks.specs.Occurrence.{occurs}
 use Rattle.enc_marks.proofs.Added.{added-more}
 use Rattle.enc_marks.proofs.Closures.{is_present-closures}

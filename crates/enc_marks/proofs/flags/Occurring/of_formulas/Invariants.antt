@@ -1,6 +1,6 @@
 use Rattle.std.proofs.Common.{◌≡◌, ℕ, take}
 use Rattle.std.specs.List.{list_any}
-use Rattle.enc_marks.specs.Flags.{is_set}
+use Rattle.enc_marks.specs.Calls.Flags.{is_set}
 use Rattle.enc_marks.specs.Occurrence.{occurs}
 use Rattle.enc_marks.proofs.flags.Occurring.of_formulas.Given as goal
 

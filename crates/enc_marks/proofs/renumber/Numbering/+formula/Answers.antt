@@ -1,4 +1,4 @@
-use Rattle.enc_marks.specs.Flags.{number_of}
+use Rattle.enc_marks.specs.Calls.Flags.{number_of}
 use Rattle.enc_marks.proofs.Occurrence.{renumber-true, renumber-false, renumber-atom, renumber-equal, renumber-not, renumber-and, renumber-or, renumber-implies, renumber-for_all, renumber-exists}
 use Rattle.enc_marks.proofs.renumber.Numbering.+formula.Goals as goal
 

@@ -1,5 +1,5 @@
 use Rattle.std.proofs.Common.{◌≡◌, map, take}
-use Rattle.enc_marks.specs.Flags.{number_of}
+use Rattle.enc_marks.specs.Calls.Flags.{number_of}
 use Rattle.enc_marks.specs.Occurrence.{renumber}
 use Rattle.enc_marks.proofs.renumber.Numbering.+formula.Given as goal
 

@@ -1,4 +1,4 @@
-use Rattle.enc_marks.specs.Flags.{number_of}
+use Rattle.enc_marks.specs.Calls.Flags.{number_of}
 use Rattle.enc_marks.proofs.Occurrence.{renumber_term-variable, renumber_term-apply}
 use Rattle.enc_marks.proofs.renumber.Numbering.+term.Goals as goal
 

@@ -1,7 +1,7 @@
 use Rattle.std.proofs.Common.{ap, ◌∙◌}
 use Rattle.fof_models.specs.declared.formula.Fof.{Fof}
-use Rattle.enc_marks.specs.Closures.{closure_of}
-use Rattle.enc_marks.specs.Flags.{number_of}
+use Rattle.enc_marks.specs.Calls.Closures.{closure_of}
+use Rattle.enc_marks.specs.Calls.Flags.{number_of}
 use Rattle.enc_marks.proofs.Closures.{renumbered_by-closure}
 use Rattle.enc_marks.proofs.Results.{ok_same}
 use Rattle.enc_marks.proofs.renumber.Numbering.closure.Goals as goal

@@ -3,8 +3,8 @@ use Rattle.std.specs.Vec.Iter.{into_iter_items}
 use Rattle.std.proofs.lemmas.List.{append-nil, nil_from_length}
 use Rattle.fof_models.specs.declared.problem.FofFormula.{FofFormula}
 use Rattle.enc_marks.specs.declared.open_formula.OpenFormula.{OpenFormula}
-use Rattle.enc_marks.specs.Closures.{closures}
-use Rattle.enc_marks.specs.Flags.{number_of, renumbered_by}
+use Rattle.enc_marks.specs.Calls.Closures.{closures}
+use Rattle.enc_marks.specs.Calls.Flags.{number_of, renumbered_by}
 use Rattle.enc_marks.proofs.renumber.Numbering.closures.Goals as goal
 
 pub loop-formula-preserved : goal.loop-formula-preserved

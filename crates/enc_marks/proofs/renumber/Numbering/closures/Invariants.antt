@@ -1,7 +1,7 @@
 use Rattle.std.proofs.Common.{◌≡◌, ◌++◌, map, length}
 use Rattle.std.specs.Vec.Iter.{into_iter_items, into_iter_len}
-use Rattle.enc_marks.specs.Closures.{closures}
-use Rattle.enc_marks.specs.Flags.{number_of, renumbered_by}
+use Rattle.enc_marks.specs.Calls.Closures.{closures}
+use Rattle.enc_marks.specs.Calls.Flags.{number_of, renumbered_by}
 use Rattle.enc_marks.proofs.renumber.Numbering.closures.Given as goal
 
 -- what was made, before what is still to be made, is what all the formulas give

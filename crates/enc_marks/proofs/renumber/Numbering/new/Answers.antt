@@ -3,7 +3,7 @@ use Rattle.std.proofs.Common.{◌≡◌, ℕ, ◌-◌, ◌+◌, ◌<◌, ◌≤�
 use Rattle.std.specs.List.{range_with_len}
 use Rattle.std.proofs.lemmas.List.FromFn.{map-range_with_len_more, get_or-map-range_with_len, length-map-range_with_len}
 use Rattle.std.proofs.lemmas.List.{get_or_past}
-use Rattle.enc_marks.specs.Flags.{is_set, number_of}
+use Rattle.enc_marks.specs.Calls.Flags.{is_set, number_of}
 use Rattle.enc_marks.specs.Occurrence.{count_below}
 use Rattle.enc_marks.proofs.Ranks.{count_below-more, count_below-le, count_below-beyond}
 use Rattle.enc_marks.proofs.renumber.Numbering.new.Goals as goal

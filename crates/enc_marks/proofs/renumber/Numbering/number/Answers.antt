@@ -1,5 +1,5 @@
 use Rattle.std.proofs.Common.{rules}
-use Rattle.enc_marks.specs.Flags.{number_of}
+use Rattle.enc_marks.specs.Calls.Flags.{number_of}
 use Rattle.enc_marks.proofs.renumber.Numbering.number.Goals as goal
 
 pub returns : goal.returns

@@ -1,91 +1,152 @@
-use Rattle.std.proofs.Common.{◌≤◌, ◌++◌, ◌∷◌, [], List, map, min, take, ap, sym, ◌∙◌, length, get_or, append_assoc, arith}
+use Rattle.std.proofs.Common.{◌≡◌, ◌≤◌, ◌<◌, ◌++◌, ◌∷◌, [], Bool, List, map, min, take, ap, sym, ◌∙◌, length, get_or, false, append_assoc, arith}
 use Rattle.std.specs.Prelude.{Option}
+use Rattle.std.proofs.lemmas.List.{append-nil, get_or-map, length-map}
 use Rattle.tf_core.specs.declared.ty.Ty.{Ty}
 use Rattle.tf_core.specs.declared.term.Term.{Term}
 use Rattle.tf_core.specs.declared.signature.Symbol.{Symbol}
-use Rattle.enc_marks.specs.Schemes.{all_types}
 use Rattle.tf_core.specs.Types.{instantiate}
 use Rattle.tf_naked.specs.Covers.{covers}
+use Rattle.tf_naked.specs.declared.position.Position.TheVariants.{Argument}
 use Rattle.fof_models.specs.declared.formula.FofTerm.{FofTerm}
+use Rattle.enc_marks.specs.Encoded.{all_numbers}
 use Rattle.enc_marks.specs.Translation as specs
 use Rattle.enc_marks.specs.Translation.{Bare}
-use Rattle.enc_marks.specs.Writing.{choices_in, numbers_in, signature_in, term_in, placed_in, zipped}
+use Rattle.enc_marks.specs.Calls.Writing.{arguments_in, bare_in, placed_in, type_term_in}
 use Rattle.enc_marks.proofs.Translation.{bare-variable, bare-apply}
 use Rattle.enc_marks.proofs.Results.{ok_with}
-use Rattle.enc_marks.proofs.Zipped.{zipped-more, zipped-take}
-use Rattle.enc_marks.proofs.Uniform.{placed_all-uniform, length-covers}
+use Rattle.enc_marks.proofs.Places.{placed_all-more, placed_all-none, placed_all-take}
+use Rattle.enc_marks.proofs.CoverCount.{length-covers}
 use Rattle.enc_marks.proofs.writer.Writer.+term.Goals as goal
 
+pub applied-loop-i-init : goal.applied-loop-i-init
+applied-loop-i-init g t c =
+    let choices = g.C.Choices.choices c.args.self.now.choices.now in
+    let normal = c.args.self.now.types.normal.now in
+    let symbol = c.args.shape.now.symbol.now in
+    sym (ap (λ (more : List FofTerm). c.in_ok-made.made ++ more)
+    (placed_all-none choices (all_numbers normal) normal.signature c.args.depth (covers symbol)
+    (map (instantiate c.args.types.now) symbol.arguments)
+    (map (bare_in choices normal c.args.depth c.args.kinds.now) c.args.terms.now))
+    ∙ append-nil c.in_ok-made.made)
+
 pub applied-loop-i-preserved : goal.applied-loop-i-preserved
-applied-loop-i-preserved t c = λ kinds.
-    let writer = c.args.self.now in
-    let place = λ (ty : Ty) (term : Term). placed_in writer c.args.depth (instantiate c.args.types.now ty)
-    (term_in writer c.args.depth kinds term) in
+applied-loop-i-preserved g t c =
+    let choices = g.C.Choices.choices c.args.self.now.choices.now in
+    let normal = c.args.self.now.types.normal.now in
+    let depth = c.args.depth in
+    let symbol = c.args.shape.now.symbol.now in
+    let one = instantiate c.args.types.now in
+    let bare = bare_in choices normal depth c.args.kinds.now in
+    let place = λ (cover : Bool) (ty : Ty) (term : Bare). placed_in choices normal depth (Argument
+    cover) ty term in
     let i = c.loop-i.i in
-    let types = c.args.symbol.now.arguments in
-    let terms = c.args.terms.now in
+    let tests = covers symbol in
+    let types = map one symbol.arguments in
+    let terms = map bare c.args.terms.now in
+    let ty = c.index-declared-i.result in
+    let term = c.index-terms-i.result in
     let before = c.in_ok-made.made in
-    let front = zipped place (take i types) (take i terms) in
-    let count = ap (λ (items : List Ty). length items) c.as_slice.ensures in
+    let front = specs.placed_all choices (all_numbers normal) normal.signature depth tests (take i
+    types) (take i terms) in
+    let count = ap (λ (items : List Ty). length items) c.as_slice-declared.ensures in
+    let covered = length-covers symbol in
+    let all_types = length-map symbol.arguments one in
+    let all_terms = length-map c.args.terms.now bare in
+    let here : i < length symbol.arguments =
+    omega (arith, c.loop-i-test.true, c.min-count.ensures, count) in
+    let there : i < length c.args.terms.now =
+    omega (arith, c.loop-i-test.true, c.min-count.ensures) in
+    let flag : c.flag_at-cover.result ≡ get_or tests i false =
+    c.flag_at-cover.ensures ∙ ap (λ (flags : List Bool). get_or flags i false)
+    c.requires.shape.covers_are in
+    let declared : ty ≡ get_or symbol.arguments i ty =
+    c.index-declared-i.is ∙ ap (λ (items : List Ty). get_or items i ty) c.as_slice-declared.ensures
+    in
     c.in_ok-push.ensures.ok
-    ∙ ap (λ (made : List FofTerm). made ++ c.in_ok-placed.field-0 ∷ []) (c.loop-i.invariant kinds)
+    ∙ ap (λ (made : List FofTerm). made ++ c.in_ok-term.term ∷ []) c.loop-i.invariant
     ∙ ap (λ t. (before ++ front) ++ t ∷ [])
-    (c.in_ok-placed.ensures
-    ∙ ap (λ ty. placed_in writer c.args.depth (instantiate c.args.types.now ty) c.in_ok-term.term)
-    (c.index-as_slice-i.is
-    ∙ ap (λ (items : List Ty). get_or items i c.index-as_slice-i.result) c.as_slice-in-loop-i.ensures)
-    ∙ ap (placed_in writer c.args.depth (instantiate c.args.types.now (get_or types i c.index-as_slice-i.result)))
-    (c.in_ok-term.ensures kinds ∙ ap (term_in writer c.args.depth kinds) c.index-terms-i.is))
+    (c.in_ok-term.ensures
+    ∙ ap (λ b. place b (one ty) (bare term)) flag
+    ∙ ap (λ t. place (get_or tests i false) (one t) (bare term)) declared
+    ∙ ap (λ t. place (get_or tests i false) t (bare term))
+    (sym (get_or-map one symbol.arguments i ty (one ty) here))
+    ∙ ap (λ t. place (get_or tests i false) (get_or types i (one ty)) (bare t)) c.index-terms-i.is
+    ∙ ap (place (get_or tests i false) (get_or types i (one ty)))
+    (sym (get_or-map bare c.args.terms.now i term (bare term) there)))
     ∙ append_assoc before front _
     ∙ ap (λ (made : List FofTerm). before ++ made)
-    (sym (zipped-more place types terms i c.index-as_slice-i.result c.index-terms-i.result
-    (omega (arith, c.loop-i-test.true, c.min-count.ensures, count)) (omega (arith, c.loop-i-test.true, c.min-count.ensures))))
+    (sym (placed_all-more choices (all_numbers normal) normal.signature depth tests types terms i
+    (one ty) (bare term)
+    (omega (arith, here, covered)) (omega (arith, here, all_types)) (omega (
+      arith,
+      there,
+      all_terms,
+    ))))
 
 pub applied-returns : goal.applied-returns
-applied-returns t c = λ kinds.
-    let writer = c.args.self.now in
-    let place = λ (ty : Ty) (term : Term). placed_in writer c.args.depth (instantiate c.args.types.now ty)
-    (term_in writer c.args.depth kinds term) in
+applied-returns g t c =
+    let choices = g.C.Choices.choices c.args.self.now.choices.now in
+    let normal = c.args.self.now.types.normal.now in
+    let depth = c.args.depth in
+    let symbol = c.args.shape.now.symbol.now in
+    let one = instantiate c.args.types.now in
+    let bare = bare_in choices normal depth c.args.kinds.now in
     let i = c.loop-i.i in
-    let types = c.args.symbol.now.arguments in
-    let terms = c.args.terms.now in
-    let kept = map (specs.type_term (numbers_in writer).constructor c.args.depth)
-    (specs.selected (all_types c.args.symbol.now) c.args.types.now) in
+    let tests = covers symbol in
+    let types = map one symbol.arguments in
+    let terms = map bare c.args.terms.now in
+    let taken = specs.placed_all choices (all_numbers normal) normal.signature depth tests (take i
+    types) (take i terms) in
+    let count = ap (λ (items : List Ty). length items) c.as_slice-declared.ensures in
+    let all_types = length-map symbol.arguments one in
+    let all_terms = length-map c.args.terms.now bare in
     let enough : min (length types) (length terms) ≤ i =
-    omega (arith, c.loop-i-test.false, c.min-count.ensures, ap (λ (items : List Ty). length items) c.as_slice.ensures) in
-    c.loop-i.invariant kinds
-    ∙ ap (λ (made : List FofTerm). made ++ zipped place (take i types) (take i terms)) c.in_ok-made.ensures
-    ∙ ap (λ (made : List FofTerm). kept ++ made) (zipped-take place types terms i enough
-    ∙ sym (placed_all-uniform writer c.args.depth kinds c.args.types.now (covers c.args.symbol.now) types terms
-    (length-covers c.args.symbol.now)))
+    omega (arith, c.loop-i-test.false, c.min-count.ensures, count, all_types, all_terms) in
+    let kept = λ (flags : List Bool). map (type_term_in normal depth) (specs.selected flags
+    c.args.types.now) in
+    record {
+      exact = c.loop-i.invariant
+          ∙ ap (λ (made : List FofTerm). made ++ taken) c.in_ok-made.ensures
+          ∙ ap (λ (flags : List Bool). kept flags ++ taken) c.requires.shape.kept_are
+          ∙ ap (λ (made : List FofTerm). kept (choices.keeps symbol) ++ made)
+          (placed_all-take choices (all_numbers normal) normal.signature depth tests types terms i
+          enough);
+    }
 
 pub arguments-returns-in-Some : goal.arguments-returns-in-Some
-arguments-returns-in-Some t c =
+arguments-returns-in-Some g t c =
+    let choices = g.C.Choices.choices c.args.self.now.choices.now in
+    let normal = c.args.self.now.types.normal.now in
     ok_with c.applied.result
-    (λ made promised. λ kinds. promised kinds
-    ∙ ap (λ (symbol : Option Symbol). specs.arguments (choices_in c.args.self.now) (numbers_in c.args.self.now)
-    (signature_in c.args.self.now) c.args.depth symbol c.args.types.now
-    (map (specs.bare (choices_in c.args.self.now) (numbers_in c.args.self.now)
-    (signature_in c.args.self.now) c.args.depth kinds) c.args.terms.now)) (sym c.in-Some.ensures))
-    c.applied.ensures
+    (λ made promised. promised
+    ∙ ap (λ (symbol : Option Symbol). arguments_in choices normal c.args.depth c.args.kinds.now
+    symbol
+    c.args.types.now c.args.terms.now) (sym c.in-Some.ensures.symbol_is))
+    c.applied.ensures.exact
 
 pub arguments-returns-in-None : goal.arguments-returns-in-None
-arguments-returns-in-None t c = λ kinds.
+arguments-returns-in-None g t c =
+    let choices = g.C.Choices.choices c.args.self.now.choices.now in
+    let normal = c.args.self.now.types.normal.now in
     c.new.ensures
-    ∙ ap (λ (symbol : Option Symbol). specs.arguments (choices_in c.args.self.now) (numbers_in c.args.self.now)
-    (signature_in c.args.self.now) c.args.depth symbol c.args.types.now
-    (map (specs.bare (choices_in c.args.self.now) (numbers_in c.args.self.now)
-    (signature_in c.args.self.now) c.args.depth kinds) c.args.terms.now)) (sym c.in-None.ensures)
+    ∙ ap (λ (symbol : Option Symbol). arguments_in choices normal c.args.depth c.args.kinds.now
+    symbol
+    c.args.types.now c.args.terms.now) (sym c.in-None.ensures)
 
 pub term-returns-in-Var : goal.term-returns-in-Var
-term-returns-in-Var t c = λ kinds.
-    sym (ap (term_in c.args.self.now c.args.depth kinds) c.in-Var.is
-    ∙ ap (λ (b : Bare). b.term) (bare-variable (choices_in c.args.self.now) (numbers_in c.args.self.now)
-    (signature_in c.args.self.now) c.args.depth kinds c.in-Var.i))
+term-returns-in-Var g t c =
+    let choices = g.C.Choices.choices c.args.self.now.choices.now in
+    let normal = c.args.self.now.types.normal.now in
+    sym (ap (λ (t : Term). (bare_in choices normal c.args.depth c.args.kinds.now t).term)
+    c.in-Var.is
+    ∙ ap (λ (b : Bare). b.term) (bare-variable choices (all_numbers normal) normal.signature
+    c.args.depth c.args.kinds.now c.in-Var.i))
 
 pub term-returns-in_ok-arguments-in-Apply : goal.term-returns-in_ok-arguments-in-Apply
-term-returns-in_ok-arguments-in-Apply t c = λ kinds.
-    let promised = c.in_ok-arguments-in-Apply.ensures kinds in
-    let layer = ap (λ (b : Bare). b.term) (bare-apply (choices_in c.args.self.now) (numbers_in c.args.self.now)
-    (signature_in c.args.self.now) c.args.depth kinds c.in-Apply.f c.in-Apply.types c.in-Apply.terms) in
+term-returns-in_ok-arguments-in-Apply g t c =
+    let choices = g.C.Choices.choices c.args.self.now.choices.now in
+    let normal = c.args.self.now.types.normal.now in
+    let promised = c.in_ok-arguments-in-Apply.ensures in
+    let layer = ap (λ (b : Bare). b.term) (bare-apply choices (all_numbers normal) normal.signature
+    c.args.depth c.args.kinds.now c.in-Apply.f c.in-Apply.types c.in-Apply.terms) in
     cc (promised, layer, c.in-Apply.is, c.as_slice.ensures, c.as_slice-in-Apply.ensures)

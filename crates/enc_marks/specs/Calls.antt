@@ -1,0 +1,4 @@
+pub mod Closures
+pub mod Flags
+pub mod Marked
+pub mod Writing
