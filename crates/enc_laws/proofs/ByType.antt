@@ -9,16 +9,23 @@ use Rattle.tf_core.specs.declared.term.Term.{Term}
 use Rattle.tf_core.specs.declared.nnf.Nnf.{Nnf}
 use Rattle.tf_core.specs.declared.signature.Symbol.{Symbol}
 use Rattle.tf_core.specs.declared.signature.Signature.{Signature}
+use Rattle.tf_core.specs.declared.normal.Normal.{Normal}
 use Rattle.tf_core.specs.Structures.{Typed}
 use Rattle.tf_core.proofs.Induction.{term_induction}
 use Rattle.tf_core.proofs.FormulaInduction.{nnf_induction}
 use Rattle.tf_naked.specs.Covers.{is_parameter, argument_parameters, cover_of, kept_parameters, covers_of}
-use Rattle.tf_naked.specs.Standing.{Position, Argument, Side, is_covering, Universal, Standing, stands_in_arguments, standing, stands}
+use Rattle.tf_naked.specs.declared.position.Position.{Position}
+use Rattle.tf_naked.specs.declared.position.Position.TheVariants.{Argument, Side}
+use Rattle.tf_naked.specs.declared.position.Kind.TheVariants.{Universal}
+use Rattle.tf_naked.specs.Standing.{is_covering, Standing, stands_in_arguments, standing, stands}
 use Rattle.tf_naked.proofs.Standing.{standing-variable, standing-apply, stands-true, stands-false, stands-atom, stands-equation, stands-and, stands-or, stands-for_all, stands-exists}
-use Rattle.enc_marks.specs.Schemes.{guards, tags, guards_cover, tags_cover}
+use Rattle.enc_marks.specs.declared.choices.Domain.TheVariants.{Merged}
+use Rattle.enc_marks.specs.declared.scheme.Scheme.{Scheme}
+use Rattle.enc_marks.specs.declared.scheme.Scheme.TheVariants as scheme
+use Rattle.enc_marks.specs.Schemes.{guards, tags, guards_cover, tags_cover, choices_of}
 use Rattle.enc_laws.specs.Relations.{needed}
 use Rattle.enc_laws.proofs.CoversRead.{AreCovered, no_parameters, kept, dropped, AreCovered-all}
-use Rattle.enc_laws.proofs.Stamped.{stamped, IsByType}
+use Rattle.enc_laws.proofs.Stamped.{stamped, MergesByType}
 
 -- no variable stands at a position where nothing passes
 
@@ -74,7 +81,7 @@ module _ (g : Signature) where
     on_exists = λ ty body never i h. never (i + 1) (sym (stands-exists g nowhere ty body i) ∙ h);
   })
 
-  never_stands : (test : Position → Bool) → ((p : Position) → test p ≡ false) → (p : Nnf) (i : ℕ) →
+  pub never_stands : (test : Position → Bool) → ((p : Position) → test p ≡ false) → (p : Nnf) (i : ℕ) →
       IsTrue (stands g test p i) → ⊥
   never_stands test none p i h =
       stands_nowhere p i (subst (λ x. IsTrue (stands g x p i)) (fun_ext none) h)
@@ -147,7 +154,7 @@ length-kept : (symbol : Symbol) → length (kept_parameters symbol) ≡ symbol.p
 length-kept symbol =
     length-map-range_with_len (λ parameter. is_none (cover_of symbol parameter)) 0 symbol.parameters
 
-pub guards_by_type : (g : Signature) (s : Typed) → IsByType guards g s
+pub guards_by_type : (g : Signature) (s : Typed) → MergesByType guards g s
 guards_by_type g s = record {
   marking = refl;
   covered = λ symbol. AreCovered-all symbol.parameters 0 (argument_parameters symbol);
@@ -157,7 +164,7 @@ guards_by_type g s = record {
   binds = λ ty body h. refl;
 }
 
-pub tags_by_type : (g : Signature) (s : Typed) → IsByType tags g s
+pub tags_by_type : (g : Signature) (s : Typed) → MergesByType tags g s
 tags_by_type g s = record {
   marking = refl;
   covered = λ symbol. AreCovered-all symbol.parameters 0 (argument_parameters symbol);
@@ -168,7 +175,7 @@ tags_by_type g s = record {
       (λ p. and_false (is_covering p)) body 0 h);
 }
 
-pub guards_cover_by_type : (g : Signature) (s : Typed) → IsByType guards_cover g s
+pub guards_cover_by_type : (g : Signature) (s : Typed) → MergesByType guards_cover g s
 guards_cover_by_type g s = record {
   marking = refl;
   covered = λ symbol. AreCovered-kept symbol symbol.parameters 0;
@@ -185,7 +192,7 @@ covered_never (Argument false) = refl
 covered_never (Side true) = refl
 covered_never (Side false) = refl
 
-pub tags_cover_by_type : (g : Signature) (s : Typed) → IsByType tags_cover g s
+pub tags_cover_by_type : (g : Signature) (s : Typed) → MergesByType tags_cover g s
 tags_cover_by_type g s = record {
   marking = refl;
   covered = λ symbol. AreCovered-kept symbol symbol.parameters 0;
@@ -195,3 +202,16 @@ tags_cover_by_type g s = record {
   binds = λ ty body h.
       absurd (never_stands g (needed tags_cover (stamped s) Universal ty) covered_never body 0 h);
 }
+
+-- the schemes whose domain is the merged one
+pub merges_by_type : (which : Scheme) (normal : Normal) (s : Typed) →
+    (choices_of which normal).domain ≡ Merged →
+    MergesByType (choices_of which normal) normal.signature s
+merges_by_type scheme.Guards normal s merged = guards_by_type normal.signature s
+merges_by_type scheme.Tags normal s merged = tags_by_type normal.signature s
+merges_by_type scheme.GuardsCover normal s merged = guards_cover_by_type normal.signature s
+merges_by_type scheme.TagsCover normal s merged = tags_cover_by_type normal.signature s
+merges_by_type scheme.Args normal s merged = cc
+merges_by_type scheme.Erase normal s merged = cc
+merges_by_type scheme.GuardsLight normal s merged = cc
+merges_by_type scheme.TagsLight normal s merged = cc

@@ -9,7 +9,7 @@ use Rattle.tf_core.specs.declared.signature.Signature.{Signature}
 use Rattle.tf_core.specs.Typing.{type_variable, type_apply, AreTypes, no_types, more_types}
 use Rattle.tf_core.specs.Structures.{Typed, member_of}
 use Rattle.tf_core.proofs.Types.{type_value-variable}
-use Rattle.tf_naked.specs.Standing.{Argument}
+use Rattle.tf_naked.specs.declared.position.Position.TheVariants.{Argument}
 use Rattle.tf_naked.specs.Covers.{parameter_of, is_parameter, first_places}
 use Rattle.tf_naked.proofs.Covers.{parameter_of-variable, parameter_of-apply}
 use Rattle.enc_marks.specs.Translation.{selected}

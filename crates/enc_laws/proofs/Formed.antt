@@ -14,7 +14,7 @@ use Rattle.tf_naked.specs.Covers.{covers}
 use Rattle.enc_marks.specs.Choices.{Choices}
 use Rattle.enc_marks.specs.Translation.{Numbers, selected}
 use Rattle.enc_marks.specs.Occurrence.{count_below}
-use Rattle.enc_marks.proofs.Uniform.{length-covers}
+use Rattle.enc_marks.proofs.CoverCount.{length-covers}
 use Rattle.enc_laws.specs.Relations.{AreRelated, none_related, more_related, ArgumentsAre, no_arguments, more_arguments}
 use Rattle.enc_laws.specs.Corresponds.{IsApplied}
 use Rattle.enc_laws.specs.Lifted.{Lift, lifted_at, lifted}
@@ -33,9 +33,10 @@ AreRelated-selected R (true ∷ tests) us members (more_related u m us' members'
 AreRelated-selected R (false ∷ tests) us members (more_related u m us' members' h hs) =
     AreRelated-selected R tests us' members' hs
 
-module _ (c : Choices) (k : Numbers) (g : Signature) (j : Untyped) (l : Lift)
+module _ (c : Choices) (k : Numbers) (g : Signature) (present : ℕ → Bool)
+    (j : Untyped) (l : Lift)
     (member : ℕ → ℕ → Type 0) (good : Ty → Type 0) (sound : IsSignature g)
-    (lifts : Lifts c k g j l member good) where
+    (lifts : Lifts c k g present j l member good) where
   -- what a lifted structure needs besides to fit the signature
   pub record Forms : Type 0 where
     pub some : 0 < l.members
@@ -46,7 +47,7 @@ module _ (c : Choices) (k : Numbers) (g : Signature) (j : Untyped) (l : Lift)
         j.symbol_at (k.symbol f) values < 2
 
   module _ (forms : Forms) where
-    members_are : member_count (lifted c k g j l) ≡ l.members
+    members_are : member_count (lifted c k g present j l) ≡ l.members
     members_are = length-listed l.members 0 (λ m. count_below j.size (l.picks m))
 
     numbers_for : (count : ℕ) (members : List ℕ) → EachBelow (replicate count l.members) members →
@@ -61,7 +62,7 @@ module _ (c : Choices) (k : Numbers) (g : Signature) (j : Untyped) (l : Lift)
 
     values_for : (tests : List Bool) (count : ℕ) (members elements : List ℕ) →
         length tests ≡ length members → EachBelow (replicate count l.members) members →
-        EachBelow (map (size_of (lifted c k g j l)) members) elements →
+        EachBelow (map (size_of (lifted c k g present j l)) members) elements →
         (values : List ℕ) × ArgumentsAre (ranking j l member good) tests values members elements
     values_for [] count [] [] all within small = ([], no_arguments)
     values_for [] count [] (e ∷ elements) all within small = absurd small
@@ -71,7 +72,7 @@ module _ (c : Choices) (k : Numbers) (g : Signature) (j : Untyped) (l : Lift)
     values_for (test ∷ tests) zero (m ∷ members) (e ∷ elements) all within small = absurd within
     values_for (test ∷ tests) (suc count) (m ∷ members) (e ∷ elements) all within small =
         let found = ranked j.size e (l.picks m)
-        (subst (λ z. e < z) (size_of-lifted c k g j l member good sound lifts m within.0)
+        (subst (λ z. e < z) (size_of-lifted c k g present j l member good sound lifts m within.0)
         small.0) in
         let facts = found.1 in
         let exact : IsNth j l found.0 m e = record {
@@ -89,22 +90,22 @@ module _ (c : Choices) (k : Numbers) (g : Signature) (j : Untyped) (l : Lift)
 
     -- members and elements at which a symbol has a value are read from numbers
     applied_from : (f : ℕ) (symbol : Symbol) (members elements : List ℕ) →
-        slice_get g.symbols f ≡ Some symbol → AreArguments (lifted c k g j l) symbol members
+        slice_get g.symbols f ≡ Some symbol → AreArguments (lifted c k g present j l) symbol members
         elements →
         (kept values : List ℕ) ×
-        IsApplied c k g (lifted c k g j l) j (ranking j l member good) symbol kept values members
+        IsApplied c k g (lifted c k g present j l) j (ranking j l member good) symbol kept values members
         elements
     applied_from f symbol members elements at are =
         let within : EachBelow (replicate symbol.parameters l.members) members =
         subst (λ z. EachBelow (replicate symbol.parameters z) members) members_are
         are.for_parameters in
         let us = numbers_for symbol.parameters members within in
-        let types = types_within c k g j l member good sound lifts symbol.parameters
+        let types = types_within c k g present j l member good sound lifts symbol.parameters
         symbol.arguments (arguments_formed g f symbol sound at) members within in
-        let small : EachBelow (map (size_of (lifted c k g j l))
+        let small : EachBelow (map (size_of (lifted c k g present j l))
         (map (type_value l.constructor_at members) symbol.arguments)) elements =
         subst (λ z. EachBelow z elements)
-        (sym (map-map (size_of (lifted c k g j l)) (type_value l.constructor_at members)
+        (sym (map-map (size_of (lifted c k g present j l)) (type_value l.constructor_at members)
         symbol.arguments)) are.for_arguments in
         let values = values_for (covers symbol) (length symbol.arguments)
         (map (type_value l.constructor_at members) symbol.arguments) elements
@@ -122,12 +123,12 @@ module _ (c : Choices) (k : Numbers) (g : Signature) (j : Untyped) (l : Lift)
           },
         )
 
-    pub is_structure : IsStructure g (lifted c k g j l)
+    pub is_structure : IsStructure g (lifted c k g present j l)
     is_structure = record {
       some = subst (λ z. 0 < z) (sym members_are) forms.some;
       inhabited = λ m within.
           let below : m < l.members = subst (λ z. m < z) members_are within in
-          subst (λ z. 0 < z) (sym (size_of-lifted c k g j l member good sound lifts m below))
+          subst (λ z. 0 < z) (sym (size_of-lifted c k g present j l member good sound lifts m below))
           (forms.inhabited m below);
       constructors = λ i constructor members at within.
           subst (λ z. l.constructor_at i members < z) (sym members_are)
@@ -135,17 +136,17 @@ module _ (c : Choices) (k : Numbers) (g : Signature) (j : Untyped) (l : Lift)
           (subst (λ z. EachBelow (replicate constructor.arity z) members) members_are within));
       functions = λ f symbol ty members elements at gives are.
           let h = applied_from f symbol members elements at are in
-          let value_is = functions_ranked c k g j l member good sound lifts f symbol ty h.0 h.1
+          let value_is = functions_ranked c k g present j l member good sound lifts f symbol ty h.0 h.1
           members elements at gives h.2 in
           let m : ℕ = type_value l.constructor_at members ty in
           let below = count_below-less j.size (l.into m (j.symbol_at (k.symbol f) (h.0 ++ h.1)))
           (l.picks m) value_is.inside value_is.passes in
-          subst (λ z. lifted_at c k j l f (slice_get g.symbols f) members elements < z)
-          (sym (size_of-lifted c k g j l member good sound lifts m value_is.within))
+          subst (λ z. lifted_at c k present j l f (slice_get g.symbols f) members elements < z)
+          (sym (size_of-lifted c k g present j l member good sound lifts m value_is.within))
           (subst (λ z. z < count_below j.size (l.picks m)) value_is.rank below);
       predicates = λ f symbol members elements at gives are.
           let h = applied_from f symbol members elements at are in
           subst (λ z. z < 2)
-          (predicates_ranked c k g j l member good sound lifts f symbol h.0 h.1 members elements at
+          (predicates_ranked c k g present j l member good sound lifts f symbol h.0 h.1 members elements at
           gives h.2) (forms.predicates f symbol (h.0 ++ h.1) at gives);
     }

@@ -11,6 +11,7 @@ pub mod CoversRead
 pub mod Stamped
 pub mod StampedForward
 pub mod MergedStructure
+pub mod Collapsed
 pub mod Renumbered
 pub mod ByType
 pub mod Ranked
@@ -20,8 +21,9 @@ pub mod LiftByType
 pub mod Formed
 pub mod LiftedModel
 pub mod Present
+pub mod LiftByTags
+pub mod Filled
 pub mod MergedFormed
 pub mod MarksFound
 pub mod MergedModel
-pub mod Within
-pub mod TranslationWithin
+pub mod Schemes

@@ -1,5 +1,5 @@
 -- The lifted structure corresponds to the untyped one, backward.
-use Rattle.std.specs.Prelude.{ℕ, ◌+◌, ◌<◌, ◌≡◌, Bool, true, false, List, ◌∷◌, ◌++◌, map, length, replicate, slice_get, Option, Some, None, IsTrue}
+use Rattle.std.specs.Prelude.{ℕ, ◌+◌, ◌<◌, ◌≡◌, Bool, true, false, List, ◌∷◌, ◌++◌, map, length, replicate, cond, slice_get, Option, Some, None, IsTrue}
 use Rattle.std.specs.List.{AllByRecursion}
 use Rattle.std.proofs.Common.{refl, sym, ap, ◌∙◌, subst, arith}
 use Rattle.enc_base.specs.Tables.{EachBelow}
@@ -18,7 +18,10 @@ use Rattle.fof_models.specs.Structures.{Untyped}
 use Rattle.fof_models.specs.Truth.{value, truth}
 use Rattle.fof_models.proofs.Truth.{value-variable}
 use Rattle.tf_naked.specs.Covers.{covers}
-use Rattle.tf_naked.specs.Standing.{Position, Kind, Universal, Existential, Applied, stands}
+use Rattle.tf_naked.specs.declared.position.Position.{Position}
+use Rattle.tf_naked.specs.declared.position.Kind.{Kind}
+use Rattle.tf_naked.specs.declared.position.Kind.TheVariants.{Universal, Existential, Applied}
+use Rattle.tf_naked.specs.Standing.{stands}
 use Rattle.enc_marks.specs.Choices.{Choices}
 use Rattle.enc_marks.specs.Translation.{Numbers, type_term, selected, tag, bind}
 use Rattle.enc_marks.specs.Occurrence.{count_below}
@@ -64,7 +67,8 @@ pub record IsInside (j : Untyped) (l : Lift) (v m : ℕ) : Type 0 where
   pub inside : l.into m v < j.size
   pub passes : l.picks m (l.into m v) ≡ true
 
-module _ (c : Choices) (k : Numbers) (g : Signature) (j : Untyped) (l : Lift)
+module _ (c : Choices) (k : Numbers) (g : Signature) (present : ℕ → Bool)
+    (j : Untyped) (l : Lift)
     (member : ℕ → ℕ → Type 0) (good : Ty → Type 0) where
   abbrev pub IsTypeNumber : ℕ → Ty → List ℕ → List ℕ → Type 0
   IsTypeNumber depth ty members assignment =
@@ -94,16 +98,22 @@ module _ (c : Choices) (k : Numbers) (g : Signature) (j : Untyped) (l : Lift)
     -- a function's value is in the domain, and is read as an element of the result's member
     pub result_below : (f : ℕ) (symbol : Symbol) (ty : Ty) (kept values members elements : List ℕ) →
         slice_get g.symbols f ≡ Some symbol → symbol.result ≡ Some ty →
-        IsApplied c k g (lifted c k g j l) j (ranking j l member good) symbol kept values members
+        IsApplied c k g (lifted c k g present j l) j (ranking j l member good) symbol kept values members
         elements →
         j.symbol_at (k.symbol f) (kept ++ values) < j.size
     pub result_inside : (f : ℕ) (symbol : Symbol) (ty : Ty)
         (kept values members elements : List ℕ) →
         slice_get g.symbols f ≡ Some symbol → symbol.result ≡ Some ty →
-        IsApplied c k g (lifted c k g j l) j (ranking j l member good) symbol kept values members
+        IsApplied c k g (lifted c k g present j l) j (ranking j l member good) symbol kept values members
         elements →
         IsInside j l (j.symbol_at (k.symbol f) (kept ++ values))
         (type_value l.constructor_at members ty)
+    -- a symbol that doesn't occur gives the element of rank 0, and a predicate 0
+    pub absent : (f : ℕ) (symbol : Symbol) (kept values members elements : List ℕ) →
+        slice_get g.symbols f ≡ Some symbol → present (k.symbol f) ≡ false →
+        IsApplied c k g (lifted c k g present j l) j (ranking j l member good) symbol kept values
+        members elements →
+        lifted_value l members symbol.result (j.symbol_at (k.symbol f) (kept ++ values)) ≡ 0
     -- what isn't tagged is read as itself
     pub untagged : (position : Position) (kind : Kind) (ty : Ty) (members : List ℕ) (v : ℕ) →
         good ty → c.tagged position kind ty ≡ false →
@@ -135,7 +145,7 @@ module _ (c : Choices) (k : Numbers) (g : Signature) (j : Untyped) (l : Lift)
 
   module _ (sound : IsSignature g) (lifts : Lifts) where
     pub size_of-lifted : (m : ℕ) → m < l.members →
-        size_of (lifted c k g j l) m ≡ count_below j.size (l.picks m)
+        size_of (lifted c k g present j l) m ≡ count_below j.size (l.picks m)
     size_of-lifted m within =
         listed-at l.members 0 m (λ m. count_below j.size (l.picks m)) within
         ∙ ap (λ x. count_below j.size (l.picks x)) (omega arith)
@@ -184,34 +194,47 @@ module _ (c : Choices) (k : Numbers) (g : Signature) (j : Untyped) (l : Lift)
         types_within variables others rest members below,
       )
 
+    value_present : (f : ℕ) (symbol : Symbol) (kept values members elements : List ℕ) →
+        slice_get g.symbols f ≡ Some symbol →
+        IsApplied c k g (lifted c k g present j l) j (ranking j l member good) symbol kept values
+        members elements → (b : Bool) → present (k.symbol f) ≡ b →
+        cond b (lifted_value l members symbol.result (j.symbol_at (k.symbol f) (kept ++ values))) 0
+        ≡ lifted_value l members symbol.result (j.symbol_at (k.symbol f) (kept ++ values))
+    value_present f symbol kept values members elements at h true is = refl
+    value_present f symbol kept values members elements at h false is =
+        sym (lifts.absent f symbol kept values members elements at is h)
+
     lifted_at-is : (f : ℕ) (symbol : Symbol) (result : Option Ty)
         (kept values members elements : List ℕ) →
         slice_get g.symbols f ≡ Some symbol → symbol.result ≡ result →
-        IsApplied c k g (lifted c k g j l) j (ranking j l member good) symbol kept values members
-        elements →
-        lifted_at c k j l f (slice_get g.symbols f) members elements
+        IsApplied c k g (lifted c k g present j l) j (ranking j l member good) symbol kept values
+        members elements →
+        lifted_at c k present j l f (slice_get g.symbols f) members elements
         ≡ lifted_value l members result (j.symbol_at (k.symbol f) (kept ++ values))
     lifted_at-is f symbol result kept values members elements at gives h =
         let arguments : List ℕ =
         numbers_of l j.size (map (type_value l.constructor_at members) symbol.arguments)
         elements in
-        ap (λ o. lifted_at c k j l f o members elements) at
-        ∙ ap (λ o. lifted_value l members o
-        (j.symbol_at (k.symbol f) (selected (c.keeps symbol) members ++ arguments))) gives
-        ∙ ap (λ x. lifted_value l members result (j.symbol_at (k.symbol f) (x ++ arguments)))
+        let is_there : Bool = present (k.symbol f) in
+        ap (λ o. lifted_at c k present j l f o members elements) at
+        ∙ ap (λ x. cond is_there (lifted_value l members symbol.result
+        (j.symbol_at (k.symbol f) (x ++ arguments))) 0)
         (sym (lifts.kept symbol kept members h.kept_types))
-        ∙ ap (λ x. lifted_value l members result (j.symbol_at (k.symbol f) (kept ++ x)))
+        ∙ ap (λ x. cond is_there (lifted_value l members symbol.result
+        (j.symbol_at (k.symbol f) (kept ++ x))) 0)
         (numbers_of-arguments (covers symbol) values
         (map (type_value l.constructor_at members) symbol.arguments) elements h.arguments)
+        ∙ value_present f symbol kept values members elements at h is_there refl
+        ∙ ap (λ o. lifted_value l members o (j.symbol_at (k.symbol f) (kept ++ values))) gives
 
     pub functions_ranked : (f : ℕ) (symbol : Symbol) (ty : Ty)
         (kept values members elements : List ℕ) →
         slice_get g.symbols f ≡ Some symbol → symbol.result ≡ Some ty →
-        IsApplied c k g (lifted c k g j l) j (ranking j l member good) symbol kept values members
+        IsApplied c k g (lifted c k g present j l) j (ranking j l member good) symbol kept values members
         elements →
         IsRanked j l (j.symbol_at (k.symbol f) (kept ++ values))
         (type_value l.constructor_at members ty)
-        (lifted_at c k j l f (slice_get g.symbols f) members elements)
+        (lifted_at c k present j l f (slice_get g.symbols f) members elements)
     functions_ranked f symbol ty kept values members elements at gives h =
         let inside = lifts.result_inside f symbol ty kept values members elements at gives h in
         record {
@@ -226,10 +249,10 @@ module _ (c : Choices) (k : Numbers) (g : Signature) (j : Untyped) (l : Lift)
 
     pub predicates_ranked : (f : ℕ) (symbol : Symbol) (kept values members elements : List ℕ) →
         slice_get g.symbols f ≡ Some symbol → symbol.result ≡ None →
-        IsApplied c k g (lifted c k g j l) j (ranking j l member good) symbol kept values members
+        IsApplied c k g (lifted c k g present j l) j (ranking j l member good) symbol kept values members
         elements →
         j.symbol_at (k.symbol f) (kept ++ values)
-        ≡ lifted_at c k j l f (slice_get g.symbols f) members elements
+        ≡ lifted_at c k present j l f (slice_get g.symbols f) members elements
     predicates_ranked f symbol kept values members elements at gives h =
         sym (lifted_at-is f symbol None kept values members elements at gives h)
 
@@ -242,7 +265,7 @@ module _ (c : Choices) (k : Numbers) (g : Signature) (j : Untyped) (l : Lift)
       rank = ap (λ x. count_below x (l.picks m)) (sym same) ∙ h.rank;
     }
 
-    pub corresponds : Corresponds c k g (lifted c k g j l) j (ranking j l member good)
+    pub corresponds : Corresponds c k g (lifted c k g present j l) j (ranking j l member good)
     corresponds = record {
       constructors = lifts.constructors;
       functions = functions_ranked;
@@ -270,12 +293,12 @@ module _ (c : Choices) (k : Numbers) (g : Signature) (j : Untyped) (l : Lift)
         TypesAre (ranking j l member good) variables depth members assignment →
         IsTypeNumber depth ty members assignment
     type_number variables depth ty members assignment formed are =
-        type_reads c k g (lifted c k g j l) j (ranking j l member good) sound corresponds variables
+        type_reads c k g (lifted c k g present j l) j (ranking j l member good) sound corresponds variables
         ty formed depth members assignment are
 
     module _ (ok : Nnf → Type 0)
-        (passes : Passes c k g (lifted c k g j l) j (ranking j l member good) ok) where
-      pub backward : Backward c k g (lifted c k g j l) j (ranking j l member good) ok
+        (passes : Passes c k g (lifted c k g present j l) j (ranking j l member good) ok) where
+      pub backward : Backward c k g (lifted c k g present j l) j (ranking j l member good) ok
       backward = record {
         passes = passes;
         sides = refl;

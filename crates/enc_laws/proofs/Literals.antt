@@ -20,7 +20,11 @@ use Rattle.fof_models.specs.Structures.{Untyped}
 use Rattle.fof_models.specs.Truth as untyped
 use Rattle.fof_models.proofs.Truth as untyped_proofs
 use Rattle.tf_naked.specs.Covers.{covers, covers_of}
-use Rattle.tf_naked.specs.Standing.{Position, Side, Kind, Universal, stands_in_arguments, stands_in_side, standing, stands}
+use Rattle.tf_naked.specs.declared.position.Position.{Position}
+use Rattle.tf_naked.specs.declared.position.Position.TheVariants.{Side}
+use Rattle.tf_naked.specs.declared.position.Kind.{Kind}
+use Rattle.tf_naked.specs.declared.position.Kind.TheVariants.{Universal}
+use Rattle.tf_naked.specs.Standing.{stands_in_arguments, stands_in_side, standing, stands}
 use Rattle.tf_naked.proofs.Standing.{stands-atom, stands-equation}
 use Rattle.enc_marks.specs.Choices.{Choices}
 use Rattle.enc_marks.specs.Translation.{Numbers, type_term, selected, literal, arguments, arguments_of, bare, side}

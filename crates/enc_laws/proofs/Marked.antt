@@ -1,5 +1,5 @@
 -- The lift of the translations whose marks say which numbers are elements.
-use Rattle.std.specs.Prelude.{ℕ, ◌<◌, ◌≡◌, Bool, true, false, List, [], ◌++◌, map, length, replicate, slice_get, Some, IsTrue}
+use Rattle.std.specs.Prelude.{ℕ, ◌<◌, ◌≡◌, Bool, true, false, List, [], ◌++◌, map, length, replicate, slice_get, Option, Some, None, IsTrue}
 use Rattle.std.specs.List.{AllByRecursion}
 use Rattle.std.proofs.Common.{refl, sym, ap, ◌∙◌, subst}
 use Rattle.enc_base.specs.Tables.{EachBelow}
@@ -12,19 +12,25 @@ use Rattle.tf_core.specs.Typing.{IsSignature}
 use Rattle.fof_models.specs.declared.formula.FofTerm.{FofTerm}
 use Rattle.fof_models.specs.Structures.{Untyped}
 use Rattle.fof_models.specs.Truth.{value, truth}
-use Rattle.tf_naked.specs.Standing.{Position, Argument, Kind, Universal}
+use Rattle.tf_naked.specs.declared.position.Position.{Position}
+use Rattle.tf_naked.specs.declared.position.Position.TheVariants.{Argument}
+use Rattle.tf_naked.specs.declared.position.Kind.{Kind}
+use Rattle.tf_naked.specs.declared.position.Kind.TheVariants.{Universal}
 use Rattle.enc_marks.specs.Choices.{Choices}
 use Rattle.enc_marks.specs.Translation.{Numbers, selected, tag, bind}
 use Rattle.enc_marks.specs.Axioms.{typing_axiom}
+use Rattle.enc_marks.specs.Occurrence.{count_below}
 use Rattle.enc_laws.specs.Relations.{AreRelated, none_related, more_related}
 use Rattle.enc_laws.specs.Corresponds.{IsApplied}
-use Rattle.enc_laws.specs.Lifted.{Lift, lifted}
+use Rattle.enc_laws.specs.Lifted.{Lift, lifted_value, lifted}
 use Rattle.enc_laws.proofs.TypingRead.{ReadsAxioms, IsTyped, result_typed}
 use Rattle.enc_laws.proofs.Lifting.{ranking, IsInside, IsTypeNumber, Lifts}
 
-module _ (c : Choices) (k : Numbers) (g : Signature) (j : Untyped) (l : Lift)
+module _ (c : Choices) (k : Numbers) (g : Signature) (present : ℕ → Bool)
+    (j : Untyped) (l : Lift)
     (member : ℕ → ℕ → Type 0) (good : Ty → Type 0) where
-  pub record IsMarked : Type 0 where
+  -- numbers are read as themselves, and marks say which of them are elements of a member
+  pub record PicksByMarks : Type 0 where
     pub itself : (m v : ℕ) → l.into m v ≡ v
     pub within : (v m : ℕ) → member v m → m < l.members
     pub below : (v m : ℕ) → member v m → v < j.size
@@ -52,9 +58,12 @@ module _ (c : Choices) (k : Numbers) (g : Signature) (j : Untyped) (l : Lift)
     pub functions_below : (f : ℕ) (symbol : Symbol) (ty : Ty) (values : List ℕ) →
         slice_get g.symbols f ≡ Some symbol → symbol.result ≡ Some ty →
         j.symbol_at (k.symbol f) values < j.size
+    pub absent : (f : ℕ) (symbol : Symbol) (values : List ℕ) →
+        slice_get g.symbols f ≡ Some symbol → present (k.symbol f) ≡ false →
+        j.symbol_at (k.symbol f) values ≡ 0
     -- what is bound to a type with marks is an element of its member
     pub bind_is : (depth : ℕ) (ty : Ty) (t : FofTerm) (members assignment : List ℕ) → good ty →
-        c.typing ty ≡ true → IsTypeNumber c k g j l member good depth ty members assignment →
+        c.typing ty ≡ true → IsTypeNumber c k g present j l member good depth ty members assignment →
         truth j (bind c k g depth ty t) assignment
         ≡ l.picks (type_value l.constructor_at members ty) (value j assignment t)
     -- each number is an element of any other member
@@ -67,14 +76,14 @@ module _ (c : Choices) (k : Numbers) (g : Signature) (j : Untyped) (l : Lift)
     -- tags change no element
     pub tag_same : (position : Position) (kind : Kind) (depth : ℕ) (ty : Ty) (t : FofTerm)
         (members assignment : List ℕ) → good ty → c.tagged position kind ty ≡ true →
-        IsTypeNumber c k g j l member good depth ty members assignment →
+        IsTypeNumber c k g present j l member good depth ty members assignment →
         l.picks (type_value l.constructor_at members ty) (value j assignment t) ≡ true →
         value j assignment (tag c k g depth ty t) ≡ value j assignment t
     pub axioms : (f : ℕ) (symbol : Symbol) (ty : Ty) → slice_get g.symbols f ≡ Some symbol →
         symbol.result ≡ Some ty → c.typing ty ≡ true →
         IsTrue (truth j (typing_axiom c k g f symbol ty) [])
 
-  module _ (sound : IsSignature g) (marked : IsMarked) where
+  module _ (sound : IsSignature g) (marked : PicksByMarks) where
     all_below : (us members : List ℕ) → AreRelated member us members →
         EachBelow (replicate (length members) j.size) us
     all_below us members none_related = tt
@@ -96,7 +105,7 @@ module _ (c : Choices) (k : Numbers) (g : Signature) (j : Untyped) (l : Lift)
 
     result_picked : (f : ℕ) (symbol : Symbol) (ty : Ty) (kept values members elements : List ℕ) →
         slice_get g.symbols f ≡ Some symbol → symbol.result ≡ Some ty →
-        IsApplied c k g (lifted c k g j l) j (ranking j l member good) symbol kept values members
+        IsApplied c k g (lifted c k g present j l) j (ranking j l member good) symbol kept values members
         elements → (typing : Bool) → c.typing ty ≡ typing →
         l.picks (type_value l.constructor_at members ty)
         (j.symbol_at (k.symbol f) (kept ++ values)) ≡ true
@@ -121,7 +130,7 @@ module _ (c : Choices) (k : Numbers) (g : Signature) (j : Untyped) (l : Lift)
         (marked.declared_result f symbol ty at gives) typing x.type) ∙ x.bound_to)
 
     element_picked : (depth : ℕ) (ty : Ty) (t : FofTerm) (members assignment : List ℕ) → good ty →
-        IsTypeNumber c k g j l member good depth ty members assignment →
+        IsTypeNumber c k g present j l member good depth ty members assignment →
         (c.existential ty ≡ true → IsTrue (truth j (bind c k g depth ty t) assignment)) →
         (typing : Bool) → c.typing ty ≡ typing →
         l.picks (type_value l.constructor_at members ty) (value j assignment t) ≡ true
@@ -139,7 +148,15 @@ module _ (c : Choices) (k : Numbers) (g : Signature) (j : Untyped) (l : Lift)
           passes = ap (l.picks m) same ∙ picked;
         }
 
-    pub lifts : Lifts c k g j l member good
+    -- zeros are read as themselves, and have rank 0
+    zero_read : (members : List ℕ) (result : Option Ty) (v : ℕ) → v ≡ 0 →
+        lifted_value l members result v ≡ 0
+    zero_read members None v zero = zero
+    zero_read members (Some ty) v zero =
+        let m : ℕ = type_value l.constructor_at members ty in
+        ap (λ x. count_below x (l.picks m)) (marked.itself m v ∙ zero)
+
+    pub lifts : Lifts c k g present j l member good
     lifts = record {
       within = marked.within;
       constructors = marked.constructors;
@@ -152,6 +169,8 @@ module _ (c : Choices) (k : Numbers) (g : Signature) (j : Untyped) (l : Lift)
       result_inside = λ f symbol ty kept values members elements at gives h.
           inside_from _ _ (marked.functions_below f symbol ty (kept ++ values) at gives)
           (result_picked f symbol ty kept values members elements at gives h (c.typing ty) refl);
+      absent = λ f symbol kept values members elements at none h.
+          zero_read members symbol.result _ (marked.absent f symbol (kept ++ values) at none);
       untagged = λ position kind ty members v is_good no_tag. marked.itself _ v;
       stays = λ kind ty body members v is_good need. marked.itself _ v;
       tag_is = λ depth ty t members assignment position kind e is_good tagged type_is h.

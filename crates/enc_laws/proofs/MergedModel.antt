@@ -14,7 +14,9 @@ use Rattle.fof_models.specs.Structures.{Untyped, values_below}
 use Rattle.fof_models.specs.Structures as fof_structures
 use Rattle.fof_models.specs.Models as fof_models
 use Rattle.fof_models.specs.Models.{AreSatisfied}
-use Rattle.enc_marks.specs.Choices.{Choices, Binding, ByGuard, ByTag}
+use Rattle.enc_marks.specs.declared.choices.Binding.{Binding}
+use Rattle.enc_marks.specs.declared.choices.Binding.TheVariants.{ByGuard, ByTag}
+use Rattle.enc_marks.specs.Choices.{Choices}
 use Rattle.enc_marks.specs.Occurrence.{count_below, passing}
 use Rattle.enc_marks.specs.Encoded.{MarkedSymbol, marked_symbol, marked_constructor, shared_mark, marked_symbols, marked_constructors, own_marks, all_marks, is_present, renumbered, translation, encoded}
 use Rattle.tf_stamp.specs.Merged.{merged_size, member_in, element_in}
@@ -24,12 +26,12 @@ use Rattle.enc_laws.specs.Present.{over_present}
 use Rattle.tf_stamp.proofs.Merged.{stamp_within, member_in-within}
 use Rattle.enc_laws.proofs.Ranked.{nth-count_below}
 use Rattle.enc_laws.proofs.Renumbered.{satisfied-renumbered}
-use Rattle.enc_laws.proofs.Stamped.{IsByType, element_of}
+use Rattle.enc_laws.proofs.Stamped.{MergesByType, element_of}
 use Rattle.enc_laws.proofs.MergedStructure.{symbol_at-other, symbol_at-shared, merged_satisfies}
 use Rattle.enc_laws.proofs.MergedFormed.{EachBelow-front, EachBelow-back, merged_symbol-below, merged_constructor-below}
 use Rattle.enc_laws.proofs.MarksFound.{passing_found, slice_get-within, map_found, InLists, in_first, in_second, lists_found, symbol_found, constructor_found, length-symbols, length-constructors}
 
-module _ (c : Choices) (normal : Normal) (s : Typed) (by : IsByType c normal.signature s)
+module _ (c : Choices) (normal : Normal) (s : Typed) (by : MergesByType c normal.signature s)
     (sound : IsNormal normal) (model : IsNormalModel normal s) where
   abbrev own : Untyped
   own = merged c normal.signature s

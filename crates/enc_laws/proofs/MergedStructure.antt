@@ -18,17 +18,17 @@ use Rattle.tf_stamp.specs.Merged.{member_in}
 use Rattle.enc_laws.specs.MergedStructure.{kept_count, members_at, value_at, merged_value, merged_symbol, merged_mark, merged_other, merged_at, merged}
 use Rattle.enc_laws.proofs.Selected.{all_same}
 use Rattle.enc_laws.proofs.MarksFound.{slice_get-within}
-use Rattle.enc_laws.proofs.Stamped.{stamped, IsMerged, IsByType, corresponds}
+use Rattle.enc_laws.proofs.Stamped.{stamped, IsMerged, MergesByType, corresponds}
 use Rattle.enc_laws.proofs.StampedForward.{forward, forward_axioms}
 use Rattle.enc_laws.proofs.ProblemForward.{translation_forward}
 
-slice_get-past : {A : Type 0} (items : List A) (i : ℕ) → slice_get items (length items + i) ≡ None
+pub slice_get-past : {A : Type 0} (items : List A) (i : ℕ) → slice_get items (length items + i) ≡ None
 slice_get-past [] i = refl
 slice_get-past (item ∷ items) i =
     let e : length (item ∷ items) + i ≡ suc (length items + i) = omega arith in
     subst (λ x. slice_get (item ∷ items) x ≡ None) (sym e) (slice_get-past items i)
 
-take-front : (front back : List ℕ) (n : ℕ) → length front ≡ n → take n (front ++ back) ≡ front
+pub take-front : (front back : List ℕ) (n : ℕ) → length front ≡ n → take n (front ++ back) ≡ front
 take-front [] back zero all = refl
 take-front [] back (suc n) all = absurd (omega (arith, all))
 take-front (x ∷ front) back zero all = absurd (omega (arith, all))
@@ -96,7 +96,7 @@ module _ (c : Choices) (normal : Normal) (s : Typed) where
         symbol_at-shared (u ∷ v ∷ []) ∙ ap (λ z. merged_mark s z (u ∷ v ∷ [])) binding;
   }
 
-  pub merged_satisfies : IsByType c normal.signature s → IsNormal normal → IsNormalModel normal s →
+  pub merged_satisfies : MergesByType c normal.signature s → IsNormal normal → IsNormalModel normal s →
       AreSatisfied (merged c normal.signature s) (translation c normal)
   merged_satisfies by sound model =
       let j = merged c normal.signature s in

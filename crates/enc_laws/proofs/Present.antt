@@ -1,21 +1,24 @@
 -- The tables of the marked symbols that occur, seen over all marked symbols.
-use Rattle.std.specs.Prelude.{ℕ, zero, suc, ◌+◌, ◌<◌, ◌≤◌, ◌≡◌, Bool, true, false, List, [], ◌∷◌, ◌++◌, map, length, replicate, cond, is_none, slice_index, slice_get, Some, None}
+use Rattle.std.specs.Prelude.{ℕ, zero, suc, ◌+◌, ◌<◌, ◌≤◌, ◌≡◌, Bool, true, false, not, ◌&&◌, List, [], ◌∷◌, ◌++◌, map, length, replicate, cond, is_none, slice_index, slice_get, Some, None, IsTrue}
 use Rattle.std.proofs.Common.{refl, sym, ap, ◌∙◌, subst, arith, ⊎_elim}
-use Rattle.std.proofs.lemmas.Bool.{cases_lt}
+use Rattle.std.proofs.lemmas.Bool.{cases_lt, le-leb, lt-leb}
 use Rattle.enc_base.specs.Tables.{place}
 use Rattle.tf_core.specs.declared.signature.Constructor.{Constructor}
 use Rattle.tf_core.specs.declared.signature.Symbol.{Symbol}
 use Rattle.tf_core.specs.declared.normal.Normal.{Normal}
 use Rattle.fof_models.specs.declared.problem.FofSymbol.{FofSymbol}
 use Rattle.fof_models.specs.declared.structure.Structure.{Structure}
-use Rattle.fof_models.specs.Structures.{table_of, reading, values_below, IsWellFormed}
+use Rattle.fof_models.specs.Structures.{Untyped, table_of, reading, values_below, IsWellFormed}
 use Rattle.fof_models.specs.Models.{AreSatisfied, AreModel}
+use Rattle.enc_marks.specs.declared.choices.Marking.TheVariants.{ByType}
+use Rattle.enc_marks.specs.declared.choices.Binding.TheVariants.{ByTag}
 use Rattle.enc_marks.specs.Choices.{Choices}
 use Rattle.enc_marks.specs.Occurrence.{count_below, passing}
-use Rattle.enc_marks.specs.Encoded.{all_numbers, MarkedSymbol, marked_symbol, marked_constructor, marked_symbols, marked_constructors, all_marks, is_present, renumbered, translation, encoded}
-use Rattle.enc_laws.specs.Present.{over_all}
+use Rattle.enc_marks.specs.Encoded.{all_numbers, MarkedSymbol, is_guard, marked_symbol, marked_constructor, shared_mark, marked_symbols, marked_constructors, own_marks, all_marks, is_present, renumbered, translation, encoded}
+use Rattle.enc_laws.specs.Present.{over_all, last_of, is_tag}
 use Rattle.enc_laws.specs.Lifted.{IsClosed}
-use Rattle.enc_laws.proofs.MarksFound.{count_below-next, length-symbols}
+use Rattle.enc_laws.specs.Total.{IsTotal}
+use Rattle.enc_laws.proofs.MarksFound.{slice_get-within, count_below-next, length-symbols, length-constructors}
 use Rattle.enc_laws.proofs.Renumbered.{satisfied-all_marks}
 
 slice_index-past : (items : List ℕ) (i : ℕ) → length items ≤ i → slice_index items i ≡ 0
@@ -174,50 +177,151 @@ module _ (c : Choices) (normal : Normal) where
     unfolding encoded
     formulas_satisfied = model.formulas
 
-    mark_below : (m : ℕ) (marked : MarkedSymbol) (values : List ℕ) →
-        slice_get (all_marks c normal) m ≡ Some marked →
-        0 < values_below marked.symbol s.size → (b : Bool) → present m ≡ b →
-        (over_all present (reading s)).symbol_at m values < values_below marked.symbol s.size
-    mark_below m marked values at some false is = rw is some
-    mark_below m marked values at some true is =
+    -- the structure over all marked symbols
+    abbrev pub marked : Untyped
+    marked = over_all (is_present (translation c normal)) (is_tag c normal) (reading s)
+
+    mark_present : (m : ℕ) (item : MarkedSymbol) (values : List ℕ) →
+        slice_get (all_marks c normal) m ≡ Some item →
+        0 < values_below item.symbol s.size → present m ≡ true →
+        marked.symbol_at m values < values_below item.symbol s.size
+    mark_present m item values at some is =
         let e : 0 + m ≡ m = omega arith in
-        let there : slice_get signature (count_below m present) ≡ Some marked.symbol =
+        let there : slice_get signature (count_below m present) ≡ Some item.symbol =
         slice_get-map (λ (one : MarkedSymbol). one.symbol)
-        (passing present 0 (all_marks c normal)) (count_below m present) marked
-        (slice_get-passing present 0 (all_marks c normal) m marked at (ap present e ∙ is)
+        (passing present 0 (all_marks c normal)) (count_below m present) item
+        (slice_get-passing present 0 (all_marks c normal) m item at (ap present e ∙ is)
         (count_below m present)
         (ap (λ x. count_below x present) e
         ∙ (let z : count_below m present ≡ 0 + count_below m present = omega arith in z))) in
-        rw is (symbol_at-reading signature s well_formed (count_below m present) marked.symbol
+        rw is (symbol_at-reading signature s well_formed (count_below m present) item.symbol
         values there some)
 
-    pub is_closed : IsClosed (all_numbers normal) normal.signature (over_all present (reading s))
+    -- what is absent and no tag has zeros
+    pub absent_zero : (m : ℕ) (values : List ℕ) →
+        m < length normal.signature.symbols + length normal.signature.constructors →
+        present m ≡ false → marked.symbol_at m values ≡ 0
+    absent_zero m values before is =
+        let symbols : ℕ = length normal.signature.symbols in
+        let constructors : ℕ = length normal.signature.constructors in
+        let tagless : is_tag c normal m ≡ false =
+        ap (λ b. b && not (is_guard c.binding)) (lt-leb (symbols + constructors) m before) in
+        ap (λ b. cond b ((reading s).symbol_at (count_below m present) values)
+        (cond (is_tag c normal m) (last_of values) 0)) is
+        ∙ ap (λ b. cond b (last_of values) 0) tagless
+
+    mark_below : (m : ℕ) (item : MarkedSymbol) (values : List ℕ) →
+        slice_get (all_marks c normal) m ≡ Some item →
+        m < length normal.signature.symbols + length normal.signature.constructors →
+        0 < values_below item.symbol s.size → (b : Bool) → present m ≡ b →
+        marked.symbol_at m values < values_below item.symbol s.size
+    mark_below m item values at before some false is =
+        subst (λ z. z < values_below item.symbol s.size) (sym (absent_zero m values before is)) some
+    mark_below m item values at before some true is = mark_present m item values at some is
+
+    pub is_closed : IsClosed (all_numbers normal) normal.signature marked
     is_closed = record {
       inhabited = well_formed.inhabited;
       constructors = λ i constructor values at.
+          let within = slice_get-within normal.signature.constructors i constructor at in
           mark_below (length normal.signature.symbols + i)
           (marked_constructor normal i constructor) values (mark-constructor i constructor at)
+          (omega (arith, within))
           well_formed.inhabited (present (length normal.signature.symbols + i)) refl;
       functions = λ f symbol ty values at gives.
+          let within = slice_get-within normal.signature.symbols f symbol at in
           let kind : is_none symbol.result ≡ false = ap is_none gives in
-          subst (λ b. (over_all present (reading s)).symbol_at f values < cond b 2 s.size) kind
+          subst (λ b. marked.symbol_at f values < cond b 2 s.size) kind
           (mark_below f (marked_symbol c f symbol) values (mark-symbol f symbol at)
+          (omega (arith, within))
           (subst (λ b. 0 < cond b 2 s.size) (sym kind) well_formed.inhabited) (present f) refl);
     }
 
     pub predicates_below : (f : ℕ) (symbol : Symbol) (values : List ℕ) →
         slice_get normal.signature.symbols f ≡ Some symbol → symbol.result ≡ None →
-        (over_all present (reading s)).symbol_at f values < 2
+        marked.symbol_at f values < 2
     predicates_below f symbol values at gives =
+        let within = slice_get-within normal.signature.symbols f symbol at in
         let kind : is_none symbol.result ≡ true = ap is_none gives in
         let some : 0 < 2 = omega arith in
-        subst (λ b. (over_all present (reading s)).symbol_at f values < cond b 2 s.size) kind
+        subst (λ b. marked.symbol_at f values < cond b 2 s.size) kind
         (mark_below f (marked_symbol c f symbol) values (mark-symbol f symbol at)
+        (omega (arith, within))
         (subst (λ b. 0 < cond b 2 s.size) (sym kind) some) (present f) refl)
 
-    pub all_satisfied : AreSatisfied (over_all present (reading s)) (translation c normal)
+    -- a tag gives numbers of the domain, also where it doesn't occur
+    module _ (marking : c.marking ≡ ByType) (binding : c.binding ≡ ByTag) where
+      abbrev shared : ℕ
+      shared = length normal.signature.symbols + length normal.signature.constructors
+
+      mark-shared : slice_get (all_marks c normal)
+          (length normal.signature.symbols + length normal.signature.constructors)
+          ≡ Some (shared_mark ByTag)
+      mark-shared =
+          let counts = length-constructors normal 0 normal.signature.constructors in
+          let e : length (marked_constructors normal 0 normal.signature.constructors) + 0
+          ≡ length normal.signature.constructors = omega (arith, counts) in
+          let own : slice_get (own_marks normal c.binding c.marking) 0 ≡ Some (shared_mark ByTag) =
+          ap (λ z. slice_get (own_marks normal c.binding z) 0) marking
+          ∙ ap (λ z. Some (shared_mark z)) binding in
+          subst (λ n. slice_get (all_marks c normal) (n + length normal.signature.constructors)
+          ≡ Some (shared_mark ByTag)) (length-symbols c 0 normal.signature.symbols)
+          (slice_get-behind (marked_symbols c 0 normal.signature.symbols) _
+          (length normal.signature.constructors) (shared_mark ByTag)
+          (subst (λ n. slice_get (marked_constructors normal 0 normal.signature.constructors
+          ++ own_marks normal c.binding c.marking) n ≡ Some (shared_mark ByTag)) e
+          (slice_get-behind (marked_constructors normal 0 normal.signature.constructors) _ 0
+          (shared_mark ByTag) own)))
+
+      tag_by_presence : (u v : ℕ) → v < s.size → (b : Bool) →
+          present (length normal.signature.symbols + length normal.signature.constructors) ≡ b →
+          marked.symbol_at
+          (length normal.signature.symbols + length normal.signature.constructors) (u ∷ v ∷ [])
+          < s.size
+      tag_by_presence u v below true is =
+          mark_present (length normal.signature.symbols + length normal.signature.constructors)
+          (shared_mark ByTag) (u ∷ v ∷ []) mark-shared well_formed.inhabited is
+      tag_by_presence u v below false is =
+          let tag : is_tag c normal shared ≡ true =
+          ap (λ b. b && not (is_guard c.binding)) (le-leb shared shared (omega arith))
+          ∙ ap (λ z. not (is_guard z)) binding in
+          subst (λ z. z < s.size)
+          (sym (ap (λ b. cond b ((reading s).symbol_at (count_below shared present) (u ∷ v ∷ []))
+          (cond (is_tag c normal shared) v 0)) is
+          ∙ ap (λ b. cond b v 0) tag)) below
+
+      pub tags_below : (u v : ℕ) → v < s.size →
+          marked.symbol_at
+          (length normal.signature.symbols + length normal.signature.constructors) (u ∷ v ∷ [])
+          < s.size
+      tags_below u v below = tag_by_presence u v below (present shared) refl
+
+    pub is_total : c.marking ≡ ByType → IsTotal c normal marked
+    is_total marking = record {
+      closed = is_closed;
+      tags = λ binding u v below. tags_below marking binding u v below;
+      predicates = predicates_below;
+    }
+
+    -- a symbol that doesn't occur
+    pub symbol_absent : (f : ℕ) (symbol : Symbol) (values : List ℕ) →
+        slice_get normal.signature.symbols f ≡ Some symbol → present f ≡ false →
+        marked.symbol_at f values ≡ 0
+    symbol_absent f symbol values at is =
+        let within = slice_get-within normal.signature.symbols f symbol at in
+        absent_zero f values (omega (arith, within)) is
+
+    -- any structure that agrees on the symbols that occur satisfies what is stated
+    pub agreeing_satisfied : (j : Untyped) → s.size ≡ j.size →
+        ((m : ℕ) → IsTrue (present m) → (values : List ℕ) →
+        (reading s).symbol_at (count_below m present) values ≡ j.symbol_at m values) →
+        AreSatisfied j (translation c normal)
+    agreeing_satisfied j size agree =
+        satisfied-all_marks present (reading s) j size (translation c normal) agree
+        formulas_satisfied
+
+    pub all_satisfied : AreSatisfied marked (translation c normal)
     all_satisfied =
-        satisfied-all_marks present (reading s) (over_all present (reading s)) refl
-        (translation c normal)
+        agreeing_satisfied marked refl
         (λ m is values. sym (ap (λ b. cond b ((reading s).symbol_at (count_below m present) values)
-        0) is)) formulas_satisfied
+        (cond (is_tag c normal m) (last_of values) 0)) is))

@@ -24,13 +24,16 @@ use Rattle.fof_models.specs.Truth.{value, truth}
 use Rattle.fof_models.specs.Models.{IsSatisfied, AreSatisfied}
 use Rattle.fof_models.proofs.Truth.{value-variable, value-apply}
 use Rattle.tf_naked.specs.Covers.{covers}
-use Rattle.tf_naked.specs.Standing.{Argument, Universal}
-use Rattle.enc_marks.specs.Choices.{Choices, Marking, ByType, BySort}
+use Rattle.tf_naked.specs.declared.position.Position.TheVariants.{Argument}
+use Rattle.tf_naked.specs.declared.position.Kind.TheVariants.{Universal}
+use Rattle.enc_marks.specs.declared.choices.Marking.{Marking}
+use Rattle.enc_marks.specs.declared.choices.Marking.TheVariants.{ByType, BySort}
+use Rattle.enc_marks.specs.Choices.{Choices}
 use Rattle.enc_marks.specs.Translation.{Numbers, type_term, selected, tag, bind, placed_all, formula}
 use Rattle.enc_marks.specs.Axioms.{closed, under, own_types, own_variables, closed_formula, premises, own_application, typing_axiom}
 use Rattle.enc_marks.specs.Encoded.{all_numbers, stated, axiom_named, typing_of, typing_axioms, type_axioms, sort_axioms, last_axioms, translation}
 use Rattle.enc_marks.specs.Names.{typing_name}
-use Rattle.enc_marks.proofs.Uniform.{length-covers}
+use Rattle.enc_marks.proofs.CoverCount.{length-covers}
 use Rattle.enc_laws.specs.Relations.{Relations, AreRelated, none_related, more_related, ArgumentsAre, no_arguments, more_arguments, TypesAre}
 use Rattle.enc_laws.specs.Corresponds.{IsApplied, Corresponds}
 use Rattle.enc_laws.specs.Directions.{Forward}
@@ -229,7 +232,7 @@ module _ (c : Choices) (k : Numbers) (g : Signature) (s : Typed) (j : Untyped) (
         (arguments_formed g f symbol sound at) (covers symbol) (length-covers symbol)
         (axioms.declared f symbol at) below holds in
         axioms.result depth ty (own_application c k g depth f symbol) members assignment
-        (s.symbol_at f members arguments.0) typing
+        (s.symbol_at f members arguments.0) (axioms.declared_result f symbol ty at gives) typing
         (type_reads c k g s j r sound both symbol.parameters ty
         (result_formed g f symbol ty sound at gives)
         depth members assignment are)

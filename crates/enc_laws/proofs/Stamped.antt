@@ -16,9 +16,15 @@ use Rattle.fof_models.specs.Structures.{Untyped}
 use Rattle.fof_models.specs.Truth as untyped
 use Rattle.fof_models.proofs.Truth as untyped_proofs
 use Rattle.tf_naked.specs.Covers.{argument_parameters, covers}
-use Rattle.tf_naked.specs.Standing.{Position, Argument, Kind, Universal, is_covering, stands, is_undercover, is_naked}
+use Rattle.tf_naked.specs.declared.position.Position.{Position}
+use Rattle.tf_naked.specs.declared.position.Position.TheVariants.{Argument}
+use Rattle.tf_naked.specs.declared.position.Kind.{Kind}
+use Rattle.tf_naked.specs.declared.position.Kind.TheVariants.{Universal}
+use Rattle.tf_naked.specs.Standing.{is_covering, stands, is_undercover, is_naked}
 use Rattle.tf_core.specs.declared.nnf.Nnf.{Nnf}
-use Rattle.enc_marks.specs.Choices.{Choices, ByType, ByGuard, ByTag}
+use Rattle.enc_marks.specs.declared.choices.Marking.TheVariants.{ByType}
+use Rattle.enc_marks.specs.declared.choices.Binding.TheVariants.{ByGuard, ByTag}
+use Rattle.enc_marks.specs.Choices.{Choices}
 use Rattle.enc_marks.specs.Translation.{Numbers, type_term, selected, tag_by, tag}
 use Rattle.enc_laws.specs.Relations.{Relations, needed, AreRelated, none_related, more_related, ArgumentsAre, no_arguments, more_arguments}
 use Rattle.enc_laws.specs.Corresponds.{IsApplied, Corresponds}
@@ -81,7 +87,7 @@ pub record IsMerged (c : Choices) (k : Numbers) (g : Signature) (s : Typed) (j :
 
 -- a scheme whose marks have the type as an argument, and that binds each variable that has to be
 -- exact
-pub record IsByType (c : Choices) (g : Signature) (s : Typed) : Type 0 where
+pub record MergesByType (c : Choices) (g : Signature) (s : Typed) : Type 0 where
   pub marking : c.marking ≡ ByType
   pub covered : (symbol : Symbol) → AreCovered (argument_parameters symbol) (c.keeps symbol) 0
   pub keeps : (symbol : Symbol) → length (c.keeps symbol) ≡ symbol.parameters
@@ -204,7 +210,7 @@ element_of s v m below within inhabited = record { below = below; is = refl; sma
         (cases_lt v (length s.sizes))
 
 module _ (c : Choices) (k : Numbers) (g : Signature) (s : Typed) (j : Untyped)
-    (sound : IsSignature g) (structure : IsStructure g s) (by : IsByType c g s)
+    (sound : IsSignature g) (structure : IsStructure g s) (by : MergesByType c g s)
     (low : IsMerged c k g s j) where
   constructors_read : (i : ℕ) (constructor : Constructor) (values members : List ℕ) →
       slice_get g.constructors i ≡ Some constructor → length members ≡ constructor.arity →

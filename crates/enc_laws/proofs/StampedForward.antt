@@ -14,8 +14,13 @@ use Rattle.fof_models.specs.declared.formula.FofTerm.TheVariants as term
 use Rattle.fof_models.specs.Structures.{Untyped}
 use Rattle.fof_models.specs.Truth.{value, truth}
 use Rattle.fof_models.proofs.Truth.{value-variable, truth-atom, truth-equal, truth-for_all, truth-exists}
-use Rattle.tf_naked.specs.Standing.{Argument, Universal, is_covering}
-use Rattle.enc_marks.specs.Choices.{Choices, Binding, ByType, BySort, ByGuard, ByTag}
+use Rattle.tf_naked.specs.declared.position.Position.TheVariants.{Argument}
+use Rattle.tf_naked.specs.declared.position.Kind.TheVariants.{Universal}
+use Rattle.tf_naked.specs.Standing.{is_covering}
+use Rattle.enc_marks.specs.declared.choices.Binding.{Binding}
+use Rattle.enc_marks.specs.declared.choices.Marking.TheVariants.{ByType, BySort}
+use Rattle.enc_marks.specs.declared.choices.Binding.TheVariants.{ByGuard, ByTag}
+use Rattle.enc_marks.specs.Choices.{Choices}
 use Rattle.enc_marks.specs.Translation.{Numbers, type_term, tag, guard_by, bind_by, bind}
 use Rattle.enc_marks.specs.Axioms.{last_axiom}
 use Rattle.enc_marks.proofs.Translation.{type_term-variable}
@@ -27,7 +32,7 @@ use Rattle.tf_stamp.proofs.Merged.{member_in-stamp, stamp-parts, member_in-withi
 use Rattle.enc_laws.proofs.Selected.{all_same}
 use Rattle.enc_laws.proofs.Literals.{TypesAre-more}
 use Rattle.enc_laws.proofs.Terms.{type_reads}
-use Rattle.enc_laws.proofs.Stamped.{IsMemberRead, IsElement, IsStamp, stamped, IsMerged, IsByType, stamp-below, stamp-element, size_within, element_of, value-tag, corresponds}
+use Rattle.enc_laws.proofs.Stamped.{IsMemberRead, IsElement, IsStamp, stamped, IsMerged, MergesByType, stamp-below, stamp-element, size_within, element_of, value-tag, corresponds}
 
 one_is : (b : Bool) → eqb (cond b 1 0) 1 ≡ b
 one_is true = refl
@@ -45,7 +50,7 @@ is_stamp-from sizes v l =
     cond-false (ltb v (length sizes)) false true (le-ltb v (length sizes) l)
 
 module _ (c : Choices) (k : Numbers) (g : Signature) (s : Typed) (j : Untyped)
-    (sound : IsSignature g) (structure : IsStructure g s) (by : IsByType c g s)
+    (sound : IsSignature g) (structure : IsStructure g s) (by : MergesByType c g s)
     (low : IsMerged c k g s j) where
   stamp_of : (v m : ℕ) → length s.sizes ≤ v → v < merged_size s.sizes →
       member_in s.sizes v ≡ m → IsStamp s v m (element_in s.sizes v m)
@@ -231,6 +236,7 @@ module _ (c : Choices) (k : Numbers) (g : Signature) (s : Typed) (j : Untyped)
       record { below = omega (arith, within, low.size); is = refl },
     );
     declared = λ f symbol at. all_same (λ (ty : Ty). ty) symbol.arguments;
+    declared_result = λ f symbol ty at gives. refl;
     argument = λ depth cover ty t members assignment good read within bound.
         let m : ℕ = member_of s members ty in
         let element = element_at (value j assignment t) m within (member_within _ m read) in (
@@ -242,7 +248,7 @@ module _ (c : Choices) (k : Numbers) (g : Signature) (s : Typed) (j : Untyped)
                 (bound (premise_of cover ty strict untagged)) c.binding refl;
           },
         );
-    result = λ depth ty t members assignment e typing read applied.
+    result = λ depth ty t members assignment e good typing read applied.
         bound_true depth ty t assignment (member_of s members ty) e read applied c.binding refl;
     last = λ marking last.
         truth-for_all j (last_axiom c k g c.binding 1 (type.Var 0)) []

@@ -21,12 +21,16 @@ use Rattle.fof_models.specs.Structures.{Untyped}
 use Rattle.fof_models.specs.Truth as untyped
 use Rattle.fof_models.proofs.Truth as untyped_proofs
 use Rattle.tf_naked.specs.Covers.{covers, covers_of}
-use Rattle.tf_naked.specs.Standing.{Position, Argument, Kind, Universal, Applied, Standing, stands_in_arguments, standing}
+use Rattle.tf_naked.specs.declared.position.Position.{Position}
+use Rattle.tf_naked.specs.declared.position.Position.TheVariants.{Argument}
+use Rattle.tf_naked.specs.declared.position.Kind.{Kind}
+use Rattle.tf_naked.specs.declared.position.Kind.TheVariants.{Universal, Applied}
+use Rattle.tf_naked.specs.Standing.{Standing, stands_in_arguments, standing}
 use Rattle.tf_naked.proofs.Standing.{standing-variable, standing-apply}
 use Rattle.enc_marks.specs.Choices.{Choices}
 use Rattle.enc_marks.specs.Translation.{Numbers, Bare, type_term, selected, tag, placed, placed_all, arguments, bare}
 use Rattle.enc_marks.proofs.Translation.{type_term-variable, type_term-apply, bare-variable, bare-apply}
-use Rattle.enc_marks.proofs.Uniform.{length-covers}
+use Rattle.enc_marks.proofs.CoverCount.{length-covers}
 use Rattle.enc_laws.specs.Relations.{Relations, needed, AreRelated, none_related, more_related, ArgumentsAre, no_arguments, more_arguments, TypesAre}
 use Rattle.enc_laws.specs.Corresponds.{IsApplied, Corresponds, Reads}
 use Rattle.enc_laws.proofs.Selected.{map-selected, AreTypes-selected, length-map, arguments_formed, result_formed}

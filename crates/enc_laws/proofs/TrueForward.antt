@@ -14,7 +14,9 @@ use Rattle.tf_core.proofs.Truth as typed_proofs
 use Rattle.fof_models.specs.Structures.{Untyped}
 use Rattle.fof_models.specs.Truth as untyped
 use Rattle.fof_models.proofs.Truth as untyped_proofs
-use Rattle.tf_naked.specs.Standing.{Kind, Universal, Existential, stands}
+use Rattle.tf_naked.specs.declared.position.Kind.{Kind}
+use Rattle.tf_naked.specs.declared.position.Kind.TheVariants.{Universal, Existential}
+use Rattle.tf_naked.specs.Standing.{stands}
 use Rattle.tf_naked.proofs.Standing.{stands-and, stands-or, stands-for_all, stands-exists}
 use Rattle.enc_marks.specs.Choices.{Choices}
 use Rattle.enc_marks.specs.Translation.{Numbers, formula}

@@ -21,7 +21,8 @@ use Rattle.fof_models.specs.Truth.{value, truth}
 use Rattle.fof_models.specs.Models.{IsSatisfied, AreSatisfied}
 use Rattle.fof_models.proofs.Truth.{value-variable, value-apply}
 use Rattle.tf_naked.specs.Covers.{covers}
-use Rattle.tf_naked.specs.Standing.{Argument, Universal}
+use Rattle.tf_naked.specs.declared.position.Position.TheVariants.{Argument}
+use Rattle.tf_naked.specs.declared.position.Kind.TheVariants.{Universal}
 use Rattle.enc_marks.specs.Choices.{Choices}
 use Rattle.enc_marks.specs.Translation.{Numbers, Bare, type_term, selected, tag, bind, placed_all}
 use Rattle.enc_marks.specs.Axioms.{closed, under, own_types, own_variables, premises, own_application, typing_axiom}

@@ -1,6 +1,7 @@
 -- When an untyped structure corresponds to a typed one under the choices of a scheme: its tables
 -- give for what is read what the typed structure gives. Both directions of truth share this.
-use Rattle.std.specs.Prelude.{ℕ, ◌≡◌, Bool, true, false, List, ◌++◌, map, length, get_or, slice_index, slice_get, Some, None, IsTrue}
+use Rattle.std.specs.Prelude.{ℕ, ◌≡◌, Bool, true, false, List, ◌++◌, map, length, get_or}
+use Rattle.std.specs.Prelude.{slice_index, slice_get, Some, None, IsTrue}
 use Rattle.std.specs.List.{AllByRecursion}
 use Rattle.tf_core.specs.declared.ty.Ty.{Ty}
 use Rattle.tf_core.specs.declared.signature.Constructor.{Constructor}
@@ -13,7 +14,9 @@ use Rattle.fof_models.specs.declared.formula.FofTerm.{FofTerm}
 use Rattle.fof_models.specs.Structures.{Untyped}
 use Rattle.fof_models.specs.Truth.{value}
 use Rattle.tf_naked.specs.Covers.{covers}
-use Rattle.tf_naked.specs.Standing.{Position, Kind, Universal, Applied}
+use Rattle.tf_naked.specs.declared.position.Position.{Position}
+use Rattle.tf_naked.specs.declared.position.Kind.{Kind}
+use Rattle.tf_naked.specs.declared.position.Kind.TheVariants.{Universal, Applied}
 use Rattle.enc_marks.specs.Choices.{Choices}
 use Rattle.enc_marks.specs.Translation.{Numbers, type_term, selected, tag}
 use Rattle.enc_laws.specs.Relations.{Relations, needed, AreRelated, ArgumentsAre, TypesAre}

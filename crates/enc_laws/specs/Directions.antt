@@ -10,7 +10,10 @@ use Rattle.tf_core.specs.Structures.{Typed, member_count, size_of, member_of}
 use Rattle.fof_models.specs.declared.formula.FofTerm.TheVariants as term
 use Rattle.fof_models.specs.Structures.{Untyped}
 use Rattle.fof_models.specs.Truth.{truth}
-use Rattle.tf_naked.specs.Standing.{Side, Kind, Universal, Existential, stands, is_undercover, is_naked}
+use Rattle.tf_naked.specs.declared.position.Position.TheVariants.{Side}
+use Rattle.tf_naked.specs.declared.position.Kind.{Kind}
+use Rattle.tf_naked.specs.declared.position.Kind.TheVariants.{Universal, Existential}
+use Rattle.tf_naked.specs.Standing.{stands, is_undercover, is_naked}
 use Rattle.enc_marks.specs.Choices.{Choices}
 use Rattle.enc_marks.specs.Translation.{Numbers, bind}
 use Rattle.enc_laws.specs.Relations.{Relations, needed, TypesAre}

@@ -10,8 +10,10 @@ use Rattle.fof_models.specs.declared.formula.FofTerm.{FofTerm}
 use Rattle.fof_models.specs.declared.formula.Fof.TheVariants as fof
 use Rattle.fof_models.specs.Structures.{Untyped}
 use Rattle.fof_models.specs.Truth.{value, truth}
-use Rattle.tf_naked.specs.Standing.{Argument, Universal}
-use Rattle.enc_marks.specs.Choices.{Choices, ByType, BySort}
+use Rattle.tf_naked.specs.declared.position.Position.TheVariants.{Argument}
+use Rattle.tf_naked.specs.declared.position.Kind.TheVariants.{Universal}
+use Rattle.enc_marks.specs.declared.choices.Marking.TheVariants.{ByType, BySort}
+use Rattle.enc_marks.specs.Choices.{Choices}
 use Rattle.enc_marks.specs.Translation.{Numbers, type_term, bind}
 use Rattle.enc_marks.specs.Axioms.{last_axiom}
 use Rattle.enc_laws.specs.Relations.{Relations}
@@ -34,6 +36,8 @@ module _ (c : Choices) (k : Numbers) (g : Signature) (s : Typed) (j : Untyped) (
     -- the types that symbols are declared with are good
     pub declared : (f : ℕ) (symbol : Symbol) → slice_get g.symbols f ≡ Some symbol →
         AllByRecursion r.good symbol.arguments
+    pub declared_result : (f : ℕ) (symbol : Symbol) (ty : Ty) →
+        slice_get g.symbols f ≡ Some symbol → symbol.result ≡ Some ty → r.good ty
     -- each number is an argument, under its premise where it has one
     pub argument : (depth : ℕ) (cover : Bool) (ty : Ty) (t : FofTerm)
         (members assignment : List ℕ) →
@@ -42,7 +46,7 @@ module _ (c : Choices) (k : Numbers) (g : Signature) (s : Typed) (j : Untyped) (
         (e : ℕ) × IsArgument cover ty members (value j assignment t) e
     -- what a function gives is bound to its result type
     pub result : (depth : ℕ) (ty : Ty) (t : FofTerm) (members assignment : List ℕ) (e : ℕ) →
-        c.typing ty ≡ true → IsTypeRead depth ty members assignment →
+        r.good ty → c.typing ty ≡ true → IsTypeRead depth ty members assignment →
         r.applied (value j assignment t) (member_of s members ty) e →
         IsTrue (truth j (bind c k g depth ty t) assignment)
     -- the last axioms, of all types and of a sort

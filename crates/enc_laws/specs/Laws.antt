@@ -1,14 +1,13 @@
 -- What the schemes promise.
-use Rattle.std.specs.Prelude.{ℕ, ◌<◌, ◌≡◌, ◌↔◌, Bool, true, List, map, length, slice_get, Some, None, IsTrue}
+use Rattle.std.specs.Prelude.{ℕ, ◌≡◌, ◌↔◌, Bool, List, map, length, IsTrue}
 use Rattle.std.specs.List.{AllByRecursion}
 use Rattle.tf_core.specs.declared.ty.Ty.{Ty}
 use Rattle.tf_core.specs.declared.nnf.Nnf.{Nnf}
-use Rattle.tf_core.specs.declared.signature.Symbol.{Symbol}
 use Rattle.tf_core.specs.declared.signature.Signature.{Signature}
 use Rattle.tf_core.specs.declared.normal.Normal.{Normal}
 use Rattle.tf_core.specs.Sorts.{sorts}
 use Rattle.tf_core.specs.Typing.{IsSignature, IsNnf, IsNormal}
-use Rattle.tf_core.specs.Structures.{Typed}
+use Rattle.tf_core.specs.Structures.{Typed, IsStructure}
 use Rattle.tf_core.specs.Truth.{normal_truth}
 use Rattle.tf_core.specs.Models.{IsNormalSatisfied, IsNormalModel}
 use Rattle.fof_models.specs.declared.problem.FofFormula.{FofFormula}
@@ -16,19 +15,27 @@ use Rattle.fof_models.specs.declared.structure.Structure.{Structure}
 use Rattle.fof_models.specs.Structures.{Untyped, reading}
 use Rattle.fof_models.specs.Truth.{truth}
 use Rattle.fof_models.specs.Models.{AreSatisfied, IsModel, AreModel}
-use Rattle.tf_naked.specs.Standing.{Position, Kind, stands}
-use Rattle.enc_marks.specs.Choices.{Choices, ByTag}
+use Rattle.tf_naked.specs.declared.position.Position.{Position}
+use Rattle.tf_naked.specs.declared.position.Kind.{Kind}
+use Rattle.tf_naked.specs.Standing.{stands}
+use Rattle.enc_marks.specs.declared.choices.Marking.TheVariants.{ByType}
+use Rattle.enc_marks.specs.declared.choices.Domain.TheVariants.{Merged}
+use Rattle.enc_marks.specs.declared.scheme.Scheme.{Scheme}
+use Rattle.enc_marks.specs.Choices.{Choices}
 use Rattle.enc_marks.specs.Translation.{Numbers, formula}
-use Rattle.enc_marks.specs.Encoded.{all_numbers, translation, is_present, renumbered, all_marks, encoded}
+use Rattle.enc_marks.specs.Encoded.{all_numbers, translation, is_present, renumbered, all_marks}
+use Rattle.enc_marks.specs.Encoded.{encoded}
 use Rattle.enc_marks.specs.Occurrence.{count_below}
-use Rattle.enc_marks.specs.Schemes.{guards, tags, guards_cover, tags_cover}
+use Rattle.enc_marks.specs.Schemes.{choices_of}
 use Rattle.enc_laws.specs.Relations.{Relations}
 use Rattle.enc_laws.specs.Corresponds.{Corresponds, Reads}
 use Rattle.enc_laws.specs.Directions.{Forward, Backward, NumbersAreRead}
 use Rattle.enc_laws.specs.ForwardAxioms.{ForwardAxioms}
 use Rattle.enc_laws.specs.MergedStructure.{merged}
-use Rattle.enc_laws.specs.Lifted.{lifted, lift_by_type, IsClosed}
-use Rattle.enc_laws.specs.Present.{over_present, over_all}
+use Rattle.enc_laws.specs.Collapses.{collapsing, Collapses, CollapsesAll}
+use Rattle.enc_laws.specs.Lifted.{lifted, lift_by_type, lift_by}
+use Rattle.enc_laws.specs.Present.{over_present, over_all, is_tag, all_present}
+use Rattle.enc_laws.specs.Total.{IsTotal}
 
 -- Relations that are given as tests, and what they say.
 pub record Tests : Type 0 where
@@ -107,85 +114,74 @@ OnlyPresentSymbolsCount = (i j : Untyped) (formulas : List FofFormula) → i.siz
     i.symbol_at (count_below m (is_present formulas)) values ≡ j.symbol_at m values) →
     (AreSatisfied i (map (renumbered (is_present formulas)) formulas) ↔ AreSatisfied j formulas)
 
--- A model of a normal problem gives the merged structure, in which its translation is true: of the
--- schemes whose marks have the type as an argument.
-abbrev pub MergedIsModelOf : Choices → Type 0
-MergedIsModelOf c = (normal : Normal) (s : Typed) → IsNormal normal → IsNormalModel normal s →
-    AreSatisfied (merged c normal.signature s) (translation c normal)
-
--- a guard or a tag at each variable or term, or at those at covers
+-- A model of a normal problem gives the merged structure, in which its translation is true: under
+-- each scheme whose domain is the merged one.
 abbrev pub MergedIsModel : Type 0
-MergedIsModel =
-    (MergedIsModelOf guards × MergedIsModelOf tags)
-    × (MergedIsModelOf guards_cover × MergedIsModelOf tags_cover)
+MergedIsModel = (which : Scheme) (normal : Normal) (s : Typed) →
+    (choices_of which normal).domain ≡ Merged → IsNormal normal → IsNormalModel normal s →
+    AreSatisfied (merged (choices_of which normal) normal.signature s)
+    (translation (choices_of which normal) normal)
 
--- The merged structure, over the marked symbols that occur, is well formed and a model of the
--- encoded problem, where each symbol that occurs is a marked one.
-abbrev pub MergedIsEncodedModelOf : Choices → Type 0
-MergedIsEncodedModelOf c = (normal : Normal) (s : Typed) → IsNormal normal →
+-- Over the collapsed domain, where each type is bare, guarded or tagged: what a formula says of the
+-- typed structure its translation says of the untyped one.
+abbrev pub CollapseKeepsTruth : Type 0
+CollapseKeepsTruth = (c : Choices) (k : Numbers) (g : Signature) (s : Typed) (j : Untyped)
+    (member : ℕ → ℕ → Bool) (good : Ty → Bool) (ok : Nnf → Bool) → IsSignature g →
+    IsStructure g s →
+    Collapses c k g s j (λ v m. IsTrue (member v m)) (λ ty. IsTrue (good ty)) (λ p. IsTrue (ok p)) →
+    (variables depth : ℕ) (context : List Ty) (kinds : List Kind)
+    (members elements assignment : List ℕ) (p : Nnf) → IsNnf g variables context p →
+    IsTrue (ok p) →
+    Reads c k g s j (collapsing s j (λ v m. IsTrue (member v m)) (λ ty. IsTrue (good ty))) variables
+    depth context kinds members elements assignment (λ test i. stands g test p i) →
+    IsTrue (normal_truth s members p elements) →
+    IsTrue (truth j (formula c k g p depth kinds) assignment)
+
+-- So it is of whole problems.
+abbrev pub CollapsedIsModel : Type 0
+CollapsedIsModel = (c : Choices) (normal : Normal) (s : Typed) (j : Untyped)
+    (member : ℕ → ℕ → Bool) (good : Ty → Bool) (ok : Nnf → Bool) → IsNormal normal →
     IsNormalModel normal s →
-    ((m : ℕ) → IsTrue (is_present (translation c normal) m) → m < length (all_marks c normal)) →
-    IsModel (encoded c normal).problem
-    (over_present (is_present (translation c normal)) (length (all_marks c normal))
-    (merged c normal.signature s))
-
-abbrev pub MergedIsEncodedModel : Type 0
-MergedIsEncodedModel =
-    (MergedIsEncodedModelOf guards × MergedIsEncodedModelOf tags)
-    × (MergedIsEncodedModelOf guards_cover × MergedIsEncodedModelOf tags_cover)
-
--- An untyped structure over all marked symbols whose tables are in range, and in which a
--- translation is true, gives the lifted structure, which is a model of the normal problem.
-abbrev pub LiftedIsModelOf : Choices → Type 0
-LiftedIsModelOf c = (normal : Normal) (j : Untyped) → IsNormal normal →
-    IsClosed (all_numbers normal) normal.signature j →
-    (c.binding ≡ ByTag → (values : List ℕ) →
-    j.symbol_at (all_numbers normal).shared values < j.size) →
-    ((f : ℕ) (symbol : Symbol) (values : List ℕ) →
-    slice_get normal.signature.symbols f ≡ Some symbol → symbol.result ≡ None →
-    j.symbol_at f values < 2) →
-    AreSatisfied j (translation c normal) →
-    IsNormalModel normal (lifted c (all_numbers normal) normal.signature j
-    (lift_by_type c (all_numbers normal) j true))
-
--- guards at each variable, and guards or tags at covers
-abbrev pub LiftedIsModel : Type 0
-LiftedIsModel =
-    LiftedIsModelOf guards × (LiftedIsModelOf guards_cover × LiftedIsModelOf tags_cover)
-
--- Each finite model of the problem that a scheme with guards makes gives a model of the normal
--- problem. Where a mark doesn't occur, its table is zeros.
-abbrev pub TablesAreLiftedOf : Choices → Type 0
-TablesAreLiftedOf c = (normal : Normal) (s : Structure) → IsNormal normal →
-    AreModel (encoded c normal).problem s →
-    IsNormalModel normal
-    (lifted c (all_numbers normal) normal.signature
-    (over_all (is_present (translation c normal)) (reading s))
-    (lift_by_type c (all_numbers normal)
-    (over_all (is_present (translation c normal)) (reading s)) true))
-
-abbrev pub GuardedTablesAreLifted : Type 0
-GuardedTablesAreLifted = TablesAreLiftedOf guards × TablesAreLiftedOf guards_cover
-
--- each symbol that occurs in a translation is a marked one
-abbrev pub SymbolsAreMarkedOf : Choices → Type 0
-SymbolsAreMarkedOf c = (normal : Normal) → IsNormal normal → (m : ℕ) →
-    IsTrue (is_present (translation c normal) m) → m < length (all_marks c normal)
-
-abbrev pub SymbolsAreMarked : Type 0
-SymbolsAreMarked =
-    (SymbolsAreMarkedOf guards × SymbolsAreMarkedOf tags)
-    × (SymbolsAreMarkedOf guards_cover × SymbolsAreMarkedOf tags_cover)
+    Collapses c (all_numbers normal) normal.signature s j (λ v m. IsTrue (member v m))
+    (λ ty. IsTrue (good ty)) (λ p. IsTrue (ok p)) →
+    CollapsesAll c (all_numbers normal) normal.signature s j (λ v m. IsTrue (member v m))
+    (λ ty. IsTrue (good ty)) →
+    AllByRecursion (λ formula. IsTrue (ok formula.body)) normal.formulas →
+    AllByRecursion (λ ty. IsTrue (good ty)) (sorts normal) → AreSatisfied j (translation c normal)
 
 -- Each model of a normal problem gives a model of the encoded problem, which is well formed: the
 -- merged structure, over the marked symbols that occur.
-abbrev pub ModelsAreEncodedOf : Choices → Type 0
-ModelsAreEncodedOf c = (normal : Normal) (s : Typed) → IsNormal normal → IsNormalModel normal s →
-    IsModel (encoded c normal).problem
-    (over_present (is_present (translation c normal)) (length (all_marks c normal))
-    (merged c normal.signature s))
-
 abbrev pub ModelsAreEncoded : Type 0
-ModelsAreEncoded =
-    (ModelsAreEncodedOf guards × ModelsAreEncodedOf tags)
-    × (ModelsAreEncodedOf guards_cover × ModelsAreEncodedOf tags_cover)
+ModelsAreEncoded = (which : Scheme) (normal : Normal) (s : Typed) →
+    (choices_of which normal).domain ≡ Merged → IsNormal normal → IsNormalModel normal s →
+    IsModel (encoded (choices_of which normal) normal).problem
+    (over_present (is_present (translation (choices_of which normal) normal))
+    (length (all_marks (choices_of which normal) normal))
+    (merged (choices_of which normal) normal.signature s))
+
+-- An untyped structure over all marked symbols, in which a translation is true, gives the lifted
+-- structure, which is a model of the normal problem: under each scheme whose marks have the type as
+-- an argument.
+abbrev pub LiftedIsModel : Type 0
+LiftedIsModel = (which : Scheme) (normal : Normal) (j : Untyped) →
+    (choices_of which normal).marking ≡ ByType → IsNormal normal →
+    IsTotal (choices_of which normal) normal j →
+    AreSatisfied j (translation (choices_of which normal) normal) →
+    IsNormalModel normal
+    (lifted (choices_of which normal) (all_numbers normal) normal.signature all_present j
+    (lift_by_type (choices_of which normal) (all_numbers normal) j))
+
+-- The typed structure that an untyped one over the marked symbols that occur is lifted to.
+abbrev pub lifted_of : Choices → Normal → Untyped → Typed
+lifted_of c normal i =
+    lifted c (all_numbers normal) normal.signature (is_present (translation c normal))
+    (over_all (is_present (translation c normal)) (is_tag c normal) i)
+    (lift_by c.marking c normal (all_numbers normal)
+    (over_all (is_present (translation c normal)) (is_tag c normal) i))
+
+-- Each finite model of the problem that such a scheme makes gives a model of the normal problem.
+abbrev pub TablesAreLifted : Type 0
+TablesAreLifted = (which : Scheme) (normal : Normal) (s : Structure) →
+    (choices_of which normal).marking ≡ ByType → IsNormal normal →
+    AreModel (encoded (choices_of which normal) normal).problem s →
+    IsNormalModel normal (lifted_of (choices_of which normal) normal (reading s))

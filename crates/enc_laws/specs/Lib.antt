@@ -3,7 +3,10 @@ pub mod Corresponds
 pub mod Directions
 pub mod ForwardAxioms
 pub mod MergedStructure
+pub mod CollapsedStructure
+pub mod Collapses
 pub mod Ranks
 pub mod Lifted
 pub mod Present
+pub mod Total
 pub mod Laws

@@ -1,13 +1,16 @@
 -- The untyped structure over the merged domain of a typed one, for the translations whose guard or
 -- tag has the type as an argument. It is a function of the numbers of all marked symbols.
-use Rattle.std.specs.Prelude.{ℕ, ◌+◌, ◌-◌, ◌&&◌, Bool, true, false, List, [], ◌∷◌, map, length, cond, count_by, drop, eqb, ltb, slice_get, take, Option, Some, None}
+use Rattle.std.specs.Prelude.{ℕ, ◌+◌, ◌-◌, ◌&&◌, Bool, true, false, List, [], ◌∷◌, map, length}
+use Rattle.std.specs.Prelude.{cond, count_by, drop, eqb, ltb, slice_get, take, Option, Some, None}
 use Rattle.tf_core.specs.declared.ty.Ty.{Ty}
 use Rattle.tf_core.specs.declared.signature.Symbol.{Symbol}
 use Rattle.tf_core.specs.declared.signature.Signature.{Signature}
 use Rattle.tf_core.specs.Structures.{Typed, member_of}
 use Rattle.fof_models.specs.Structures.{Untyped}
 use Rattle.tf_naked.specs.Covers.{is_parameter, argument_parameters}
-use Rattle.enc_marks.specs.Choices.{Choices, Binding, ByGuard, ByTag}
+use Rattle.enc_marks.specs.declared.choices.Binding.{Binding}
+use Rattle.enc_marks.specs.declared.choices.Binding.TheVariants.{ByGuard, ByTag}
+use Rattle.enc_marks.specs.Choices.{Choices}
 use Rattle.tf_stamp.specs.Merged.{merged_size, stamp, is_stamp, member_in, element_in}
 
 -- the argument at the cover of a parameter

@@ -1,8 +1,11 @@
 -- How an untyped structure is read as a typed one. The numbers of its domain are read as members,
 -- and as elements of members, by relations that each family of structures chooses for itself.
-use Rattle.std.specs.Prelude.{ℕ, ◌+◌, ◌-◌, ◌<◌, ◌≤◌, ◌≡◌, Bool, true, not, ◌&&◌, List, [], ◌∷◌, slice_index}
+use Rattle.std.specs.Prelude.{ℕ, ◌+◌, ◌-◌, ◌<◌, ◌≤◌, ◌≡◌, Bool, true, not, ◌&&◌, List, [], ◌∷◌}
+use Rattle.std.specs.Prelude.{slice_index}
 use Rattle.tf_core.specs.declared.ty.Ty.{Ty}
-use Rattle.tf_naked.specs.Standing.{Position, Argument, Kind}
+use Rattle.tf_naked.specs.declared.position.Position.{Position}
+use Rattle.tf_naked.specs.declared.position.Position.TheVariants.{Argument}
+use Rattle.tf_naked.specs.declared.position.Kind.{Kind}
 use Rattle.enc_marks.specs.Choices.{Choices}
 
 -- Of a number v, a member m and an element e.

@@ -1,4 +1,4 @@
-ghost use Rattle.enc_laws.specs.Laws.{TruthGoesForward, TruthGoesBack, ProblemsGoForward, ProblemsGoBack, OnlyPresentSymbolsCount, MergedIsModel, MergedIsEncodedModel, LiftedIsModel, GuardedTablesAreLifted, SymbolsAreMarked, ModelsAreEncoded};
+ghost use Rattle.enc_laws.specs.Laws.{TruthGoesForward, TruthGoesBack, ProblemsGoForward, ProblemsGoBack, OnlyPresentSymbolsCount, MergedIsModel, LiftedIsModel, TablesAreLifted, ModelsAreEncoded, CollapseKeepsTruth, CollapsedIsModel};
 
 /// Where a formula is true in a typed structure, its translation is in the untyped one.
 pub fn truth_goes_forward()
@@ -31,30 +31,31 @@ pub fn merged_is_model()
     ensures { MergedIsModel }
 {}
 
-/// The lifted structure of a model of a translation is a model of the problem: for `guards` and
-/// both cover schemes.
+/// Each model of a problem gives, over the symbols that occur, a model of the problem that
+/// `guards`, `tags` or a cover scheme makes.
+pub fn models_are_encoded()
+    ensures { ModelsAreEncoded }
+{}
+
+/// The lifted structure of a model of a translation is a model of the problem: for `guards`,
+/// `tags`, both cover schemes and `args`.
 pub fn lifted_is_model()
     ensures { LiftedIsModel }
 {}
 
-/// Each finite model of a problem that is encoded by `guards` or by guards at covers gives a model
-/// of the normal problem.
-pub fn guarded_tables_are_lifted()
-    ensures { GuardedTablesAreLifted }
+/// Each finite model of a problem that is encoded by one of these schemes gives a model of the
+/// normal problem. Where a symbol doesn't occur, its table is zeros, and a tag changes nothing.
+pub fn tables_are_lifted()
+    ensures { TablesAreLifted }
 {}
 
-/// Over the symbols that occur, the merged structure of a model is a model of the encoded problem.
-pub fn merged_is_encoded_model()
-    ensures { MergedIsEncodedModel }
+/// Over the collapsed domain, where a formula is true in the typed structure, its translation is in
+/// the untyped one: each type is bare, guarded or tagged.
+pub fn collapse_keeps_truth()
+    ensures { CollapseKeepsTruth }
 {}
 
-/// Each symbol that occurs in a translation is a marked one.
-pub fn symbols_are_marked()
-    ensures { SymbolsAreMarked }
-{}
-
-/// Each model of a problem gives a model of the problem that `guards`, `tags` or a cover scheme
-/// makes.
-pub fn models_are_encoded()
-    ensures { ModelsAreEncoded }
+/// A structure over the collapsed domain of a model of a problem is a model of its translation.
+pub fn collapsed_is_model()
+    ensures { CollapsedIsModel }
 {}

@@ -4,7 +4,7 @@
 mod laws;
 
 pub use laws::{
-    guarded_tables_are_lifted, lifted_is_model, merged_is_encoded_model, merged_is_model,
-    models_are_encoded, only_present_symbols_count, problems_go_back, problems_go_forward,
-    symbols_are_marked, truth_goes_back, truth_goes_forward,
+    collapse_keeps_truth, collapsed_is_model, lifted_is_model, merged_is_model, models_are_encoded,
+    only_present_symbols_count, problems_go_back, problems_go_forward, tables_are_lifted,
+    truth_goes_back, truth_goes_forward,
 };
