@@ -1,18 +1,10 @@
-ghost use Rattle.enc_guards.specs.Laws.{GuardsKeepModels, LoweredModelsAreModels, LiftedModelsAreModels};
+ghost use Rattle.enc_models.specs.KeepsModels.{KeepsModels};
 
-/// A sound normal problem has a finite model exactly where its translation has one.
+use enc_marks::Scheme;
+
+/// `guards` keeps models: the lowered tables of any model of a sound normal problem, however large,
+/// are a model of its translation, and the lifted tables of any model of the translation are a
+/// model of the problem.
 pub fn guards_keep_models()
-    ensures { GuardsKeepModels }
-{}
-
-/// The lowered tables of any model of a sound normal problem, however large, are a model of its
-/// translation by guards.
-pub fn lowered_models_are_models()
-    ensures { LoweredModelsAreModels }
-{}
-
-/// The lifted tables of any model of the translation of a sound normal problem by guards, however
-/// large, are a model of the problem.
-pub fn lifted_models_are_models()
-    ensures { LiftedModelsAreModels }
+    ensures { KeepsModels Scheme.Guards }
 {}

@@ -1,11 +1,13 @@
 ghost use Rattle.std.specs.Prelude.{◌≡◌, IfOk, IfErr};
 ghost use Rattle.tf_core.specs.Sound.{IsSoundNormal};
+ghost use Rattle.fof_models.specs.Sound.{IsSound};
 ghost use Rattle.enc_marks.specs.Applies.{Applies, IsRefused};
-ghost use Rattle.enc_marks.specs.Encoded.{encoded};
+ghost use Rattle.enc_marks.specs.Encoded as encoding;
 ghost use Rattle.enc_marks.specs.Schemes.{choices_of};
 
+use crate::choices::Guards;
 use enc_base::NoMemory;
-use enc_marks::{Encoded, Refusal, Scheme, encode_uniform};
+use enc_marks::{Encoded, Refusal, Scheme};
 use std::alloc::Global;
 use tf_core::Normal;
 
@@ -16,15 +18,13 @@ use tf_core::Normal;
 pub fn encode(alloc: Global, which: Scheme, normal: &Normal) -> Result<Encoded, Refusal>
     requires scheme { which ≡ Scheme.Guards }
     requires sound { IsSoundNormal normal.now }
-    ensures exact { IfOk result (λ made. made ≡ encoded (choices_of which normal.now) normal.now) }
+    ensures exact { IfOk result (λ made. made ≡ encoding.encoded (choices_of which normal.now)
+        normal.now) }
+    ensures sound { IfOk result (λ made. IsSound made.problem) }
     ensures applies { IfOk result (λ made. Applies which normal.now) }
     ensures refused { IfErr result (IsRefused which normal.now) }
 {
-    let made = match which {
-        Scheme::Guards => encode_uniform(alloc, false, true, normal),
-        _ => unreachable!(),
-    };
-    match made {
+    match enc_marks::encode(alloc, &Guards, normal) {
         Ok(made) => Ok(made),
         Err(NoMemory) => Err(Refusal::Memory),
     }

@@ -1,8 +1,10 @@
 pub mod Numbers
-pub mod Blocks
-pub mod Beginnings
+pub mod BlockEntries
+pub mod KeptBlocks
 pub mod Symbols
 pub mod Marks
+pub mod Lowering
 pub mod MarkedTables
 pub mod PickedNumbers
 pub mod LiftedValues
+pub mod KeepsModels

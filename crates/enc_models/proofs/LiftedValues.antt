@@ -1,8 +1,9 @@
 -- The values of a lifted structure, as they are computed.
-use Rattle.std.specs.Prelude.{ℕ, zero, suc, ◌≡◌, ◌<◌, ◌≤◌, ◌+◌, ◌-◌, ◌*◌, ◌^◌, ◌++◌, true, List, [], ◌∷◌, map, length, replicate, take, get_or, slice_get, slice_index, Option, Some}
-use Rattle.std.proofs.Common.{refl, sym, ap, subst, ◌∙◌, arith}
+use Rattle.std.specs.Prelude.{ℕ, zero, suc, ◌≡◌, ◌<◌, ◌≤◌, ◌+◌, ◌-◌, ◌*◌, ◌++◌, Bool, true, false, cond, List, [], ◌∷◌, map, length, replicate, take, get_or, slice_get, slice_index, Option, Some, None}
+use Rattle.std.proofs.Common.{refl, sym, ap, subst, ◌∙◌, arith, ⊎_elim}
+use Rattle.std.proofs.lemmas.Bool.{cases_Bool}
 use Rattle.std.proofs.lemmas.List.{get_or-replicate, get_or-append_right, get_or_append_left, length-replicate, length-map}
-use Rattle.std.proofs.lemmas.Option.{get_or_from_slice_get}
+use Rattle.std.proofs.lemmas.Option.{get_or_from_slice_get, slice_get_within}
 use Rattle.enc_base.specs.Tables.{EachBelow, tuple_count, place}
 use Rattle.enc_base.proofs.Tables.{EachBelow-length}
 use Rattle.tf_core.specs.declared.ty.Ty.{Ty}
@@ -10,34 +11,30 @@ use Rattle.tf_core.specs.declared.ty.Ty.TheVariants as type
 use Rattle.tf_core.specs.declared.signature.Constructor.{Constructor}
 use Rattle.tf_core.specs.declared.signature.Symbol.{Symbol}
 use Rattle.tf_core.specs.declared.signature.Signature.{Signature}
-use Rattle.tf_core.specs.Typing.{IsType, AreTypes, no_types, more_types, IsSymbol, IsNormal}
-use Rattle.tf_core.specs.Structures.{size_of, member_of, AreArguments}
-use Rattle.tf_core.specs.Models.{IsNormalModel}
+use Rattle.tf_core.specs.Typing.{IsType, AreTypes, no_types, more_types, IsSymbol}
+use Rattle.tf_core.specs.Structures.{size_of, member_of, AreArguments, IsStructure}
 use Rattle.tf_core.proofs.Types.{type_value-apply}
 use Rattle.tf_core.specs.declared.normal.Normal.{Normal}
-use Rattle.tf_models.specs.Evaluation.{IsPlaced}
+use Rattle.enc_base.specs.Tuples.{IsPlaced}
 use Rattle.tf_models.proofs.Inversion.{application_parts}
-use Rattle.tf_models.proofs.Placing.{EachBelow-same_length, place-step, place-fits, place-whole, placed_within}
+use Rattle.enc_base.proofs.Placing.{EachBelow-same_length, place-step, place-fits, place-whole, placed_within}
 use Rattle.tf_models.proofs.TypeMembers.{type_value_below, type_values_below, type_at}
 use Rattle.fof_models.specs.declared.structure.Structure.{Structure}
-use Rattle.fof_models.specs.Models.{AreModel}
-use Rattle.structure_tables.specs.Sources.{IsSized}
-use Rattle.enc_marks.specs.Choices.{ByGuard, ByTag}
-use Rattle.enc_marks.specs.declared.encoded.Encoded.{Encoded}
-use Rattle.enc_marks.specs.Encoded.{all_numbers, encoded}
+use Rattle.enc_marks.specs.declared.choices.Marking.{Marking}
+use Rattle.enc_marks.specs.declared.choices.Marking.TheVariants.{ByType}
+use Rattle.enc_marks.specs.declared.choices.Elements.{Elements}
+use Rattle.enc_marks.specs.declared.choices.Elements.TheVariants.{Guarded, Image, Fixed, All}
+use Rattle.enc_marks.specs.Choices.{Choices}
+use Rattle.enc_marks.specs.Encoded.{all_numbers, is_present, translation}
 use Rattle.enc_marks.specs.Occurrence.{count_below}
-use Rattle.enc_marks.specs.Schemes.{guards}
 use Rattle.enc_marks.specs.Translation.{selected}
-use Rattle.enc_laws.specs.Lifted.{Lift, numbers_of, lift_by_type, lifted_at, lifted_value, IsClosed}
+use Rattle.enc_laws.specs.Lifted.{Lift, numbers_of, read_as, lift_by, lift_by_type, lifted, lifted_at, lifted_value}
 use Rattle.enc_laws.specs.Ranks.{nth}
-use Rattle.enc_laws.proofs.LiftByType.{guards_lift}
-use Rattle.enc_laws.proofs.LiftedModel.{lifted_model}
-use Rattle.enc_laws.proofs.Present.{is_closed, predicates_below, all_satisfied}
 use Rattle.enc_laws.proofs.Ranked.{length-listed, listed-at}
-use Rattle.enc_models.specs.declared.marked.Marked.{Marked}
+use Rattle.enc_laws.specs.Present.{is_tag}
 use Rattle.enc_models.specs.LiftedTables.{marked_structure, lifted_structure}
-use Rattle.enc_models.specs.Lifting.{marked_in, table_in, typed_in, picks_in, numbers_in, entry_in, bounds_in, IsMarked}
-use Rattle.enc_models.proofs.MarkedTables.{constructor_long, symbol_long, entry_is, entry_none}
+use Rattle.enc_models.specs.Calls.Lifting.{Parts, marked_in, mark_in, table_in, typed_in, lift_in, occurs_in, picks_in, numbers_in, entry_in, bounds_in, IsMarked}
+use Rattle.enc_models.proofs.MarkedTables.{constructor_long, symbol_long, symbol_below, entry_is, entry_none, plain_number, some_occurs}
 use Rattle.enc_models.proofs.PickedNumbers.{nth_below}
 
 -- the place of a tuple over one bound, found from the left
@@ -89,75 +86,82 @@ selected_all (suc count) [] all = absurd (omega (arith, all))
 selected_all (suc count) (m ∷ members) all =
     ap (λ ms. m ∷ ms) (selected_all count members (omega (arith, all)))
 
-no_tags : ByGuard ≡ ByTag → ⊥
-no_tags same = cc
+-- the lifted structure of marks by type
+pub lifted_structure-by_type : (c : Choices) (normal : Normal) (s : Structure) →
+    c.marking ≡ ByType →
+    lifted_structure c normal s
+    ≡ lifted c (all_numbers normal) normal.signature (is_present (translation c normal))
+    (marked_structure c normal s)
+    (lift_by_type c (all_numbers normal) (marked_structure c normal s))
+lifted_structure-by_type c normal s by_type =
+    ap (λ (marking : Marking). lifted c (all_numbers normal) normal.signature
+    (is_present (translation c normal)) (marked_structure c normal s)
+    (lift_by marking c normal (all_numbers normal) (marked_structure c normal s))) by_type
 
--- the lifted structure is a model
-pub lifted_is_model : (normal : Normal) (s : Structure) → IsNormal normal →
-    AreModel (encoded guards normal).problem s →
-    IsNormalModel normal (lifted_structure guards normal s)
-lifted_is_model normal s typed model =
-    lifted_model guards normal (marked_structure guards normal s) (is_closed guards normal s model)
-    guards_lift refl (λ binding values. absurd (no_tags binding))
-    (all_satisfied guards normal s model) typed (predicates_below guards normal s model)
+-- numbers are read as they are where the elements of members are no images
+read_itself : (elements : Elements) (mark : ℕ → ℕ) (v : ℕ) → (elements ≡ Image → ⊥) →
+    read_as elements mark v ≡ v
+read_itself Guarded mark v plain = refl
+read_itself Image mark v plain = absurd (plain refl)
+read_itself Fixed mark v plain = refl
+read_itself All mark v plain = refl
 
-pub lifted_is_sized : (normal : Normal) (s : Structure) (problem : Encoded) (sizes : List ℕ) →
-    IsNormal normal → problem ≡ encoded guards normal → AreModel problem.problem s →
-    sizes ≡ (lifted_structure guards normal s).sizes → length sizes < 2 ^ 32 →
-    IsSized normal.signature (lifted_structure guards normal s) sizes
-lifted_is_sized normal s problem sizes typed encoded_is model same few =
-    let fitting : IsNormalModel normal (lifted_structure guards normal s) =
-    lifted_is_model normal s typed
-    (subst (λ (e : Encoded). AreModel e.problem s) encoded_is model) in
-    record { fits = fitting.structure; same = same; few = few }
-
-module _ (m : Marked) (ready : IsMarked m) where
+module _ (m : Parts) (ready : IsMarked m) (fits : IsStructure m.normal.signature (typed_in m)) where
   abbrev size : ℕ
-  size = m.model.now.size
+  size = m.model.size
 
   abbrev signature : Signature
-  signature = m.normal.now.signature
+  signature = m.normal.signature
 
-  pub closed : IsClosed (all_numbers m.normal.now) m.normal.now.signature (marked_in m)
-  closed = is_closed guards m.normal.now m.model.now ready.model
+  pub count_is : length (typed_in m).sizes ≡ m.model.size
+  count_is = length-listed size 0 (λ n. count_below size (picks_in m n))
 
   give : (i : ℕ) (constructor : Constructor) (members : List ℕ) →
-      slice_get m.normal.now.signature.constructors i ≡ Some constructor →
-      EachBelow (replicate constructor.arity m.model.now.size) members →
-      (typed_in m).constructor_at i members < m.model.now.size
-  give i constructor members at below = closed.constructors i constructor members at
+      slice_get m.normal.signature.constructors i ≡ Some constructor →
+      EachBelow (replicate constructor.arity m.model.size) members →
+      (typed_in m).constructor_at i members < m.model.size
+  give i constructor members at below =
+      subst (λ n. (typed_in m).constructor_at i members < n) count_is
+      (fits.constructors i constructor members at
+      (subst (λ n. EachBelow (replicate constructor.arity n) members) (sym count_is) below))
 
   pub member_small : (variables : ℕ) (members : List ℕ) (ty : Ty) →
-      IsType m.normal.now.signature variables ty →
-      EachBelow (replicate variables m.model.now.size) members →
-      member_of (typed_in m) members ty < m.model.now.size
+      IsType m.normal.signature variables ty →
+      EachBelow (replicate variables m.model.size) members →
+      member_of (typed_in m) members ty < m.model.size
   member_small = type_value_below signature (typed_in m).constructor_at size give
 
   pub members_small : (variables : ℕ) (members : List ℕ) (types : List Ty) →
-      AreTypes m.normal.now.signature variables types →
-      EachBelow (replicate variables m.model.now.size) members →
-      EachBelow (replicate (length types) m.model.now.size)
+      AreTypes m.normal.signature variables types →
+      EachBelow (replicate variables m.model.size) members →
+      EachBelow (replicate (length types) m.model.size)
       (map (member_of (typed_in m) members) types)
   members_small = type_values_below signature (typed_in m).constructor_at size give
 
   -- a constructor's table, as code reads it
   module _ (c : ℕ) (constructor : Constructor)
-      (found : slice_get m.normal.now.signature.constructors c ≡ Some constructor)
-      (symbols : List Symbol) (symbols_are : symbols ≡ m.normal.now.signature.symbols)
+      (found : slice_get m.normal.signature.constructors c ≡ Some constructor)
+      (symbols : List Symbol) (symbols_are : symbols ≡ m.normal.signature.symbols)
       (table : List ℕ) (table_of : table ≡ table_in m (length symbols + c)) (values : List ℕ)
       (long : length values ≡ constructor.arity)
     where
-      read : table ≡ table_in m (length m.normal.now.signature.symbols + c)
+      read : table ≡ table_in m (length m.normal.signature.symbols + c)
       read = table_of ∙ ap (λ (xs : List Symbol). table_in m (length xs + c)) symbols_are
 
+      plain : is_tag m.choices m.normal (length signature.symbols + c) ≡ false
+      plain =
+          plain_number m.choices m.normal ready.by_type (length signature.symbols + c)
+          (omega (arith, slice_get_within signature.constructors c constructor found))
+
       pub constructor_fills : (length table ≡ 0 → ⊥) →
-          length table ≡ tuple_count (replicate (length values) m.model.now.size)
+          length table ≡ tuple_count (replicate (length values) m.model.size)
       constructor_fills some =
           let same : length table ≡ length (table_in m (length signature.symbols + c)) =
           ap length read in
           let more : 0 < length table = omega (arith, some) in
           same
-          ∙ constructor_long m.normal.now m.model.now ready.model.well_formed c constructor found
+          ∙ constructor_long m.choices m.normal ready.by_type m.model ready.well_formed c constructor
+          found
           (omega (arith, same, more))
           ∙ ap (λ n. tuple_count (replicate n size)) (sym long)
 
@@ -165,22 +169,24 @@ module _ (m : Marked) (ready : IsMarked m) where
       constructor_none none =
           entry_none table (place (replicate (length values) size) values) none
           ∙ ap (λ t. slice_index t (place (replicate (length values) size) values)) read
-          ∙ sym (entry_is m.normal.now m.model.now (length signature.symbols + c) values)
+          ∙ sym (entry_is m.choices m.normal ready.by_type m.model (length signature.symbols + c)
+          values plain)
 
-      pub constructor_is : (at : ℕ) → at ≡ place (replicate (length values) m.model.now.size) values →
+      pub constructor_is : (at : ℕ) → at ≡ place (replicate (length values) m.model.size) values →
           slice_index table at ≡ (typed_in m).constructor_at c values
       constructor_is at is =
           ap (slice_index table) is
           ∙ ap (λ t. slice_index t (place (replicate (length values) size) values)) read
-          ∙ sym (entry_is m.normal.now m.model.now (length signature.symbols + c) values)
+          ∙ sym (entry_is m.choices m.normal ready.by_type m.model (length signature.symbols + c)
+          values plain)
 
   -- the member that an application is
   module _ (variables : ℕ) (members : List ℕ) (ty : Ty) (c : ℕ) (types : List Ty)
-      (is : ty ≡ type.Apply c types) (typed : IsType m.normal.now.signature variables ty)
+      (is : ty ≡ type.Apply c types) (typed : IsType m.normal.signature variables ty)
     where
       pub applied_parts : (constructor : Constructor)
-          × (slice_get m.normal.now.signature.constructors c ≡ Some constructor)
-          × (length types ≡ constructor.arity) × AreTypes m.normal.now.signature variables types
+          × (slice_get m.normal.signature.constructors c ≡ Some constructor)
+          × (length types ≡ constructor.arity) × AreTypes m.normal.signature variables types
       applied_parts = application_parts signature variables ty c types is typed
 
       pub applied_member : (typed_in m).constructor_at c (map (member_of (typed_in m) members) types)
@@ -189,7 +195,7 @@ module _ (m : Marked) (ready : IsMarked m) where
           sym (ap (member_of (typed_in m) members) is
           ∙ type_value-apply (typed_in m).constructor_at members c types)
 
-      module _ (symbols : List Symbol) (symbols_are : symbols ≡ m.normal.now.signature.symbols)
+      module _ (symbols : List Symbol) (symbols_are : symbols ≡ m.normal.signature.symbols)
           (table : List ℕ) (table_of : table ≡ table_in m (length symbols + c))
         where
           abbrev values : List ℕ
@@ -199,7 +205,7 @@ module _ (m : Marked) (ready : IsMarked m) where
           long = length-map _ _ ∙ applied_parts.2
 
           pub applied_fills : (length table ≡ 0 → ⊥) →
-              length table ≡ tuple_count (replicate (length types) m.model.now.size)
+              length table ≡ tuple_count (replicate (length types) m.model.size)
           applied_fills some =
               constructor_fills c applied_parts.0 applied_parts.1 symbols symbols_are table table_of
               values long some
@@ -212,7 +218,7 @@ module _ (m : Marked) (ready : IsMarked m) where
               ∙ applied_member
 
           pub applied_inside : (at : ℕ) → (length table ≡ 0 → ⊥) →
-              IsPlaced (replicate (length types) m.model.now.size)
+              IsPlaced (replicate (length types) m.model.size)
               (map (member_of (typed_in m) members) types) at →
               at < length table
           applied_inside at some placed =
@@ -223,7 +229,7 @@ module _ (m : Marked) (ready : IsMarked m) where
               )
 
           pub applied_is : (at : ℕ) →
-              IsPlaced (replicate (length types) m.model.now.size)
+              IsPlaced (replicate (length types) m.model.size)
               (map (member_of (typed_in m) members) types) at →
               slice_index table at ≡ member_of (typed_in m) members ty
           applied_is at placed =
@@ -234,36 +240,33 @@ module _ (m : Marked) (ready : IsMarked m) where
               ∙ applied_member
 
   -- sizes of members
-  pub size_is : (member : ℕ) → member < m.model.now.size →
-      size_of (typed_in m) member ≡ count_below m.model.now.size (picks_in m member)
+  pub size_is : (member : ℕ) → member < m.model.size →
+      size_of (typed_in m) member ≡ count_below m.model.size (picks_in m member)
   size_is member within =
       let e : 0 + member ≡ member = omega arith in
       listed-at size 0 member (λ n. count_below size (picks_in m n)) within
       ∙ ap (λ n. count_below size (picks_in m n)) e
 
-  pub count_is : length (typed_in m).sizes ≡ m.model.now.size
-  count_is = length-listed size 0 (λ n. count_below size (picks_in m n))
-
   module _ (variables : ℕ) (members : List ℕ)
-      (below : EachBelow (replicate variables m.model.now.size) members)
+      (below : EachBelow (replicate variables m.model.size) members)
     where
       abbrev lift : Lift
-      lift = lift_by_type guards (all_numbers m.normal.now) (marked_in m) true
+      lift = lift_in m
 
-      element_small : (ty : Ty) (element : ℕ) → IsType m.normal.now.signature variables ty →
+      element_small : (ty : Ty) (element : ℕ) → IsType m.normal.signature variables ty →
           element < size_of (typed_in m) (member_of (typed_in m) members ty) →
-          element < count_below m.model.now.size (picks_in m (member_of (typed_in m) members ty))
+          element < count_below m.model.size (picks_in m (member_of (typed_in m) members ty))
       element_small ty element typed small =
           subst (λ n. element < n)
           (size_is (member_of (typed_in m) members ty) (member_small variables members ty typed below))
           small
 
       numbers_small : (types : List Ty) (elements : List ℕ) →
-          AreTypes m.normal.now.signature variables types →
+          AreTypes m.normal.signature variables types →
           EachBelow (map (λ ty. size_of (typed_in m) (member_of (typed_in m) members ty)) types)
           elements →
-          EachBelow (replicate (length types) m.model.now.size)
-          (numbers_of lift m.model.now.size (map (member_of (typed_in m) members) types) elements)
+          EachBelow (replicate (length types) m.model.size)
+          (numbers_of lift m.model.size (map (member_of (typed_in m) members) types) elements)
       numbers_small [] elements no_types each = tt
       numbers_small (ty ∷ types) [] typed each = absurd each
       numbers_small (ty ∷ types) (e ∷ elements) (more_types x others formed rest) each = (
@@ -273,12 +276,12 @@ module _ (m : Marked) (ready : IsMarked m) where
       )
 
       element_below : (types : List Ty) (elements : List ℕ) (i : ℕ) (ty : Ty) →
-          AreTypes m.normal.now.signature variables types →
+          AreTypes m.normal.signature variables types →
           EachBelow (map (λ ty. size_of (typed_in m) (member_of (typed_in m) members ty)) types)
           elements →
           i < length types → ty ≡ get_or types i ty →
           get_or elements i 0
-          < count_below m.model.now.size (picks_in m (member_of (typed_in m) members ty))
+          < count_below m.model.size (picks_in m (member_of (typed_in m) members ty))
       element_below [] elements i ty typed each within is = absurd (omega (arith, within))
       element_below (t ∷ types) [] i ty typed each within is = absurd each
       element_below (t ∷ types) (e ∷ elements) zero ty (more_types x others formed rest) each within is =
@@ -289,9 +292,9 @@ module _ (m : Marked) (ready : IsMarked m) where
 
       numbers_at : (types : List Ty) (elements : List ℕ) (i : ℕ) (ty : Ty) → i < length types →
           i < length elements → ty ≡ get_or types i ty →
-          get_or (numbers_of lift m.model.now.size (map (member_of (typed_in m) members) types)
+          get_or (numbers_of lift m.model.size (map (member_of (typed_in m) members) types)
           elements) i 0
-          ≡ nth m.model.now.size (picks_in m (member_of (typed_in m) members ty))
+          ≡ nth m.model.size (picks_in m (member_of (typed_in m) members ty))
           (get_or elements i 0)
       numbers_at [] elements i ty within inside is = absurd (omega (arith, within))
       numbers_at (t ∷ types) [] i ty within inside is = absurd (omega (arith, inside))
@@ -302,7 +305,7 @@ module _ (m : Marked) (ready : IsMarked m) where
 
   pub constructor_members : (arity : ℕ) (members : List ℕ) →
       EachBelow (replicate arity (length (typed_in m).sizes)) members →
-      (EachBelow (replicate (length members) m.model.now.size) members) × (length members ≡ arity)
+      (EachBelow (replicate (length members) m.model.size) members) × (length members ≡ arity)
   constructor_members arity members below =
       let here : EachBelow (replicate arity size) members =
       subst (λ n. EachBelow (replicate arity n) members) count_is below in
@@ -310,17 +313,17 @@ module _ (m : Marked) (ready : IsMarked m) where
       (subst (λ n. EachBelow (replicate n size) members) long here, sym long)
 
   -- members and elements for a symbol
-  module _ (symbol : Symbol) (typed : IsSymbol m.normal.now.signature symbol)
+  module _ (symbol : Symbol) (typed : IsSymbol m.normal.signature symbol)
       (members elements : List ℕ) (are : AreArguments (typed_in m) symbol members elements)
     where
-      pub members_below : EachBelow (replicate symbol.parameters m.model.now.size) members
+      pub members_below : EachBelow (replicate symbol.parameters m.model.size) members
       members_below =
           subst (λ n. EachBelow (replicate symbol.parameters n) members) count_is are.for_parameters
 
       pub as_many_members : symbol.parameters ≡ length members
       as_many_members = EachBelow-length symbol.parameters size members members_below
 
-      pub each_member : EachBelow (replicate (length members) m.model.now.size) members
+      pub each_member : EachBelow (replicate (length members) m.model.size) members
       each_member =
           subst (λ n. EachBelow (replicate n size) members) as_many_members members_below
 
@@ -329,20 +332,20 @@ module _ (m : Marked) (ready : IsMarked m) where
           sym (EachBelow-same_length _ elements are.for_arguments) ∙ length-map _ _
 
       pub argument_typed : (i : ℕ) (ty : Ty) → i < length symbol.arguments →
-          ty ≡ get_or symbol.arguments i ty → IsType m.normal.now.signature (length members) ty
+          ty ≡ get_or symbol.arguments i ty → IsType m.normal.signature (length members) ty
       argument_typed i ty within is =
-          subst (λ n. IsType m.normal.now.signature n ty) as_many_members
+          subst (λ n. IsType m.normal.signature n ty) as_many_members
           (type_at signature symbol.parameters i symbol.arguments ty within is typed.arguments)
 
       pub argument_member : (i : ℕ) (ty : Ty) → i < length symbol.arguments →
-          ty ≡ get_or symbol.arguments i ty → member_of (typed_in m) members ty < m.model.now.size
+          ty ≡ get_or symbol.arguments i ty → member_of (typed_in m) members ty < m.model.size
       argument_member i ty within is =
           member_small (length members) members ty (argument_typed i ty within is) each_member
 
       pub argument_element : (i : ℕ) (ty : Ty) → i < length symbol.arguments →
           ty ≡ get_or symbol.arguments i ty →
           get_or elements i 0
-          < count_below m.model.now.size (picks_in m (member_of (typed_in m) members ty))
+          < count_below m.model.size (picks_in m (member_of (typed_in m) members ty))
       argument_element i ty within is =
           element_below symbol.parameters members members_below symbol.arguments elements i ty
           typed.arguments are.for_arguments within is
@@ -359,10 +362,10 @@ module _ (m : Marked) (ready : IsMarked m) where
 
       pub number_of_element : (i : ℕ) (ty : Ty) → i < length symbol.arguments →
           ty ≡ get_or symbol.arguments i ty →
-          nth m.model.now.size (picks_in m (member_of (typed_in m) members ty)) (get_or elements i 0)
+          nth m.model.size (picks_in m (member_of (typed_in m) members ty)) (get_or elements i 0)
           ≡ get_or (numbers_in m symbol members elements) (symbol.parameters + i) 0
       number_of_element i ty within is =
-          let lift : Lift = lift_by_type guards (all_numbers m.normal.now) (marked_in m) true in
+          let lift : Lift = lift_in m in
           let past : symbol.parameters ≤ symbol.parameters + i = omega arith in
           let behind : symbol.parameters + i - symbol.parameters ≡ i = omega arith in
           sym (get_or-append_right members _ symbol.parameters (symbol.parameters + i) 0
@@ -373,7 +376,7 @@ module _ (m : Marked) (ready : IsMarked m) where
           (omega (arith, within, as_many_elements)) is)
 
       -- the table of the symbol, as code reads it
-      module _ (f : ℕ) (found : slice_get m.normal.now.signature.symbols f ≡ Some symbol)
+      module _ (f : ℕ) (found : slice_get m.normal.signature.symbols f ≡ Some symbol)
           (table : List ℕ) (table_of : table ≡ table_in m f)
         where
           as_many_numbers : length (numbers_in m symbol members elements)
@@ -382,27 +385,39 @@ module _ (m : Marked) (ready : IsMarked m) where
               sym (EachBelow-same_length _ (numbers_in m symbol members elements) each_number)
               ∙ length-replicate (symbol.parameters + length symbol.arguments) size
 
+          symbol_plain : is_tag m.choices m.normal f ≡ false
+          symbol_plain =
+              plain_number m.choices m.normal ready.by_type f
+              (omega (arith, slice_get_within m.normal.signature.symbols f symbol found))
+
+          symbol_occurs : (length table ≡ 0 → ⊥) → occurs_in m.choices m.normal f ≡ true
+          symbol_occurs some =
+              some_occurs (occurs_in m.choices m.normal f) _ (λ none. some (ap length table_of ∙ none))
+
+          occurs_fills : occurs_in m.choices m.normal f ≡ true →
+              length table ≡ tuple_count (bounds_in m symbol)
+          occurs_fills is =
+              ap length table_of
+              ∙ symbol_long m.choices m.normal ready.by_type m.model ready.well_formed f symbol found
+              (ready.kept symbol) is
+
           pub symbol_fills : (length table ≡ 0 → ⊥) →
               length table ≡ tuple_count (bounds_in m symbol)
-          symbol_fills some =
-              let same : length table ≡ length (table_in m f) = ap length table_of in
-              let more : 0 < length table = omega (arith, some) in
-              same
-              ∙ symbol_long m.normal.now m.model.now ready.model.well_formed f symbol found
-              (omega (arith, same, more))
-
-          pub symbol_none : length table ≡ 0 → 0 ≡ entry_in m f symbol members elements
-          symbol_none none =
-              entry_none table _ none
-              ∙ ap (λ t. slice_index t (place (replicate (length (numbers_in m symbol members elements))
-              size) (numbers_in m symbol members elements))) table_of
-              ∙ sym (entry_is m.normal.now m.model.now f (numbers_in m symbol members elements))
+          symbol_fills some = occurs_fills (symbol_occurs some)
 
           pub symbol_inside : (at : ℕ) → (length table ≡ 0 → ⊥) →
               IsPlaced (bounds_in m symbol) (numbers_in m symbol members elements) at →
               at < length table
           symbol_inside at some placed =
               omega (arith, symbol_fills some, placed_within (bounds_in m symbol) _ at placed)
+
+          pub symbol_none : length table ≡ 0 → 0 ≡ entry_in m f symbol members elements
+          symbol_none none =
+              entry_none table _ none
+              ∙ ap (λ t. slice_index t (place (replicate (length (numbers_in m symbol members elements))
+              size) (numbers_in m symbol members elements))) table_of
+              ∙ sym (entry_is m.choices m.normal ready.by_type m.model f
+              (numbers_in m symbol members elements) symbol_plain)
 
           pub symbol_is : (at : ℕ) →
               IsPlaced (bounds_in m symbol) (numbers_in m symbol members elements) at →
@@ -413,28 +428,85 @@ module _ (m : Marked) (ready : IsMarked m) where
               (placed.place_is
               ∙ ap (λ n. place (replicate n size) (numbers_in m symbol members elements))
               (sym as_many_numbers))
-              ∙ sym (entry_is m.normal.now m.model.now f (numbers_in m symbol members elements))
+              ∙ sym (entry_is m.choices m.normal ready.by_type m.model f
+              (numbers_in m symbol members elements) symbol_plain)
 
-      -- what the lifted structure gives
-      pub value_is : (f : ℕ) (result : Option Ty) →
-          slice_get m.normal.now.signature.symbols f ≡ Some symbol → symbol.result ≡ result →
-          lifted_value (lift_by_type guards (all_numbers m.normal.now) (marked_in m) true) members
-          result (entry_in m f symbol members elements)
-          ≡ (typed_in m).symbol_at f members elements
-      value_is f result found gives =
-          let l = lift_by_type guards (all_numbers m.normal.now) (marked_in m) true in
-          sym (ap
-          (λ (o : Option Symbol). lifted_at guards (all_numbers m.normal.now) (marked_in m) l f o members
-          elements) found
-          ∙ ap
-          (λ (o : Option Ty). lifted_value l members o ((marked_in m).symbol_at f
-          (selected (replicate symbol.parameters true) members
-          ++ numbers_of l size (map (member_of (typed_in m) members) symbol.arguments) elements)))
-          gives
-          ∙ ap
-          (λ (us : List ℕ). lifted_value l members result ((marked_in m).symbol_at f
-          (us ++ numbers_of l size (map (member_of (typed_in m) members) symbol.arguments) elements)))
-          (selected_all symbol.parameters members as_many_members))
+          placed_numbers : IsPlaced (bounds_in m symbol) (numbers_in m symbol members elements)
+              (place (bounds_in m symbol) (numbers_in m symbol members elements))
+          placed_numbers = record { place_is = refl; below = each_number }
+
+          -- a function's entry is a number of the domain
+          pub entry_small : (ty : Ty) → symbol.result ≡ Some ty → (length table ≡ 0 → ⊥) →
+              entry_in m f symbol members elements < m.model.size
+          entry_small ty gives some =
+              let at : ℕ = place (bounds_in m symbol) (numbers_in m symbol members elements) in
+              let inside : at < length (table_in m f) =
+              subst (λ t. at < length t) table_of (symbol_inside at some placed_numbers) in
+              subst (λ n. n < m.model.size)
+              (ap (λ t. slice_index t at) (sym table_of) ∙ symbol_is at placed_numbers)
+              (symbol_below m.choices m.normal ready.by_type m.model ready.well_formed f symbol found
+              ty gives at inside)
+
+          -- an absent symbol gives zeros
+          pub absent_is : length table ≡ 0 → 0 ≡ (typed_in m).symbol_at f members elements
+          absent_is none =
+              ⊎_elim
+              (λ is. absurd (omega (
+                arith,
+                none,
+                occurs_fills is,
+                placed_within (bounds_in m symbol) _ _ placed_numbers,
+              )))
+              (λ fails.
+              sym (ap (λ (o : Option Symbol). lifted_at m.choices (all_numbers m.normal)
+              (occurs_in m.choices m.normal) (marked_in m) (lift_in m) f o members elements) found
+              ∙ ap (λ (b : Bool). cond b (lifted_value (lift_in m) members symbol.result
+              ((marked_in m).symbol_at f
+              (selected (m.choices.keeps symbol) members
+              ++ numbers_of (lift_in m) size (map (member_of (typed_in m) members)
+              symbol.arguments) elements))) 0) fails))
+              (cases_Bool (occurs_in m.choices m.normal f))
+
+          -- what the lifted structure gives where it occurs
+          module _ (some : length table ≡ 0 → ⊥) where
+            given_is : lifted_value (lift_in m) members symbol.result
+                (entry_in m f symbol members elements)
+                ≡ (typed_in m).symbol_at f members elements
+            given_is =
+                sym (ap (λ (o : Option Symbol). lifted_at m.choices (all_numbers m.normal)
+                (occurs_in m.choices m.normal) (marked_in m) (lift_in m) f o members elements) found
+                ∙ ap (λ (b : Bool). cond b (lifted_value (lift_in m) members symbol.result
+                ((marked_in m).symbol_at f
+                (selected (m.choices.keeps symbol) members
+                ++ numbers_of (lift_in m) size (map (member_of (typed_in m) members)
+                symbol.arguments) elements))) 0) (symbol_occurs some)
+                ∙ ap
+                (λ (us : List ℕ). lifted_value (lift_in m) members symbol.result
+                ((marked_in m).symbol_at f
+                (us ++ numbers_of (lift_in m) size (map (member_of (typed_in m) members)
+                symbol.arguments) elements)))
+                (ap (λ (ks : List Bool). selected ks members) (ready.kept symbol)
+                ∙ selected_all symbol.parameters members as_many_members))
+
+            pub truth_is : symbol.result ≡ None →
+                entry_in m f symbol members elements ≡ (typed_in m).symbol_at f members elements
+            truth_is gives =
+                sym (ap (λ (o : Option Ty). lifted_value (lift_in m) members o
+                (entry_in m f symbol members elements)) gives)
+                ∙ given_is
+
+            pub rank_is : (ty : Ty) → symbol.result ≡ Some ty →
+                count_below (entry_in m f symbol members elements)
+                (picks_in m (member_of (typed_in m) members ty))
+                ≡ (typed_in m).symbol_at f members elements
+            rank_is ty gives =
+                ap (λ v. count_below v (picks_in m (member_of (typed_in m) members ty)))
+                (sym (read_itself m.choices.elements
+                (mark_in m (member_of (typed_in m) members ty))
+                (entry_in m f symbol members elements) ready.as_they_are))
+                ∙ sym (ap (λ (o : Option Ty). lifted_value (lift_in m) members o
+                (entry_in m f symbol members elements)) gives)
+                ∙ given_is
 
 -- a symbol as code reads it
 pub stated_is : (symbols found : List Symbol) (f : ℕ) (symbol stated : Symbol) →

@@ -1,29 +1,31 @@
 -- The tables of marked symbols, by their numbers.
-use Rattle.std.specs.Prelude.{ℕ, zero, suc, ◌≡◌, ◌<◌, ◌≤◌, ◌+◌, ◌*◌, ◌++◌, Bool, true, false, List, [], ◌∷◌, length, replicate, cond, eqb, get_or, slice_get, slice_index, option_map, Option, Some, None}
+use Rattle.std.specs.Prelude.{ℕ, zero, suc, ◌≡◌, ◌<◌, ◌≤◌, ◌+◌, ◌*◌, ◌++◌, Bool, true, false, List, [], ◌∷◌, length, replicate, cond, count_by, is_none, not, ◌&&◌, get_or, slice_get, slice_index, option_map, Option, Some, None}
 use Rattle.std.proofs.Common.{refl, sym, ap, subst, ◌∙◌, arith, ⊎_elim}
-use Rattle.std.proofs.lemmas.Bool.{cases_Bool, cases_lt}
-use Rattle.std.proofs.lemmas.List.{length-append, get_or_append_left, get_or_push, get_or_default}
+use Rattle.std.proofs.lemmas.Bool.{cases_Bool, cases_lt, le-leb, lt-leb}
+use Rattle.std.proofs.lemmas.List.{get_or_append_left, get_or_push, get_or_default}
 use Rattle.std.proofs.lemmas.Option.{slice_get-map, slice_get-get_or, slice_get_within}
 use Rattle.enc_base.specs.Tables.{tuple_count, place}
 use Rattle.enc_base.proofs.Tables.{place_within}
+use Rattle.tf_core.specs.declared.ty.Ty.{Ty}
 use Rattle.tf_core.specs.declared.signature.Constructor.{Constructor}
 use Rattle.tf_core.specs.declared.signature.Symbol.{Symbol}
 use Rattle.tf_core.specs.declared.normal.Normal.{Normal}
 use Rattle.fof_models.specs.declared.structure.Structure.{Structure}
-use Rattle.fof_models.specs.Structures.{table_of, IsWellFormed}
+use Rattle.fof_models.specs.Structures.{table_of, reading, IsWellFormed}
 use Rattle.enc_marks.specs.declared.mark.Mark.{Mark}
 use Rattle.enc_marks.specs.declared.mark.Mark.TheVariants as mark
-use Rattle.enc_marks.specs.Choices.{ByGuard}
+use Rattle.enc_marks.specs.declared.choices.Marking.TheVariants.{ByType}
+use Rattle.enc_marks.specs.declared.choices.Binding.TheVariants.{ByGuard}
+use Rattle.enc_marks.specs.Choices.{Choices, all_types}
 use Rattle.enc_marks.specs.Occurrence.{count_below, passing}
-use Rattle.enc_marks.specs.Schemes.{guards}
-use Rattle.enc_marks.specs.Encoded.{MarkedSymbol, marked_constructors, own_marks, marked_symbols, shared_mark, all_marks, encoded}
+use Rattle.enc_marks.specs.Encoded.{MarkedSymbol, shared_mark, all_marks, encoded, is_guard}
+use Rattle.enc_laws.specs.Present.{is_tag, last_of}
 use Rattle.enc_marks.proofs.SoundMarks.{slice_get-passing, symbol-at, constructor-at, shared-at}
-use Rattle.enc_laws.proofs.MarksFound.{passing_found, map_found, lists_found, length-symbols, length-constructors}
-use Rattle.enc_models.specs.declared.marked.Marked.{Marked}
+use Rattle.enc_laws.proofs.MarksFound.{passing_found, map_found}
 use Rattle.enc_models.specs.LiftedTables.{marked_structure}
-use Rattle.enc_models.specs.Lifting.{occurs_in, mark_count, mark_number, place_in, table_in, picks_in, ArePlaces, marked_table}
+use Rattle.enc_models.specs.Calls.Lifting.{Parts, occurs_in, mark_count, mark_number, mark_in, place_in, table_in, ArePlaces, marked_table}
 use Rattle.enc_models.proofs.Symbols.{kept_all}
-use Rattle.enc_models.proofs.Marks.{IsStanding, stands}
+use Rattle.enc_models.proofs.Marks.{IsStanding, length-all_marks, stands_at}
 
 -- what holds of each item holds with one item more
 pub each_pushed : {A : Type 0} (P : ℕ → A → Type 0) (items : List A) (d item : A) (n : ℕ) →
@@ -50,7 +52,7 @@ place_none : (b : Bool) (n : ℕ) → cond b (Some n) None ≡ None → b ≡ fa
 place_none true n is = cc
 place_none false n is = refl
 
-module _ (normal : Normal) where
+module _ (c : Choices) (normal : Normal) (by_type : c.marking ≡ ByType) where
   abbrev symbols : ℕ
   symbols = length normal.signature.symbols
 
@@ -58,33 +60,22 @@ module _ (normal : Normal) where
   constructors = length normal.signature.constructors
 
   abbrev present : ℕ → Bool
-  present = occurs_in normal
+  present = occurs_in c normal
 
   abbrev marked : List MarkedSymbol
-  marked = all_marks guards normal
+  marked = all_marks c normal
 
-  pub length-all_marks : length (all_marks guards normal) ≡ mark_count normal
-  length-all_marks =
-      let whole : length (all_marks guards normal) ≡ symbols + (constructors + 1) =
-      length-append _ _
-      ∙ ap (λ n. n + length (marked_constructors normal 0 normal.signature.constructors
-      ++ own_marks normal guards.binding guards.marking))
-      (length-symbols guards 0 normal.signature.symbols)
-      ∙ ap (λ n. symbols + n)
-      (length-append _ _
-      ∙ ap (λ n. n + 1) (length-constructors normal 0 normal.signature.constructors)) in
-      omega (arith, whole)
+  pub all_marks-count : length (all_marks c normal) ≡ mark_count normal
+  all_marks-count = omega (arith, length-all_marks c normal by_type)
 
   -- the number of a marked symbol by its mark
   pub number_is : (number : ℕ) (one : MarkedSymbol) →
-      slice_get (all_marks guards normal) number ≡ Some one →
+      slice_get (all_marks c normal) number ≡ Some one →
       mark_number symbols constructors one.mark ≡ number
   number_is number one found = by one.mark refl
     where
-      standing : IsStanding guards normal guards.binding number one
-      standing =
-          stands guards normal number one
-          (lists_found (marked_symbols guards 0 normal.signature.symbols) _ number one found)
+      standing : IsStanding c normal c.binding number one
+      standing = stands_at c normal by_type number one found
 
       by : (kind : Mark) → one.mark ≡ kind → mark_number symbols constructors kind ≡ number
       by (mark.Symbol f) is = sym (standing.on_symbol f is).0
@@ -96,44 +87,44 @@ module _ (normal : Normal) where
 
   -- a marked symbol that occurs stands behind as many as occur before it
   passes_at : (number : ℕ) (one : MarkedSymbol) →
-      slice_get (all_marks guards normal) number ≡ Some one → present number ≡ true →
-      slice_get (passing present 0 (all_marks guards normal)) (count_below number present) ≡ Some one
+      slice_get (all_marks c normal) number ≡ Some one → present number ≡ true →
+      slice_get (passing present 0 (all_marks c normal)) (count_below number present) ≡ Some one
   passes_at number one at is =
       let e : 0 + number ≡ number = omega arith in
       let same = ap (λ n. count_below n present) e in
       let none : count_below 0 present ≡ 0 = refl in
-      slice_get-passing present 0 (all_marks guards normal) number (count_below number present)
+      slice_get-passing present 0 (all_marks c normal) number (count_below number present)
       (omega (arith, same, none)) (ap present e ∙ is)
       ∙ at
 
   pub mark_passes : (number : ℕ) (one : MarkedSymbol) →
-      slice_get (all_marks guards normal) number ≡ Some one → present number ≡ true →
-      slice_get (encoded guards normal).marks (count_below number present) ≡ Some one.mark
+      slice_get (all_marks c normal) number ≡ Some one → present number ≡ true →
+      slice_get (encoded c normal).marks (count_below number present) ≡ Some one.mark
   unfolding encoded
   mark_passes number one at is =
       slice_get-map (λ (one : MarkedSymbol). one.mark)
-      (passing present 0 (all_marks guards normal)) (count_below number present)
+      (passing present 0 (all_marks c normal)) (count_below number present)
       ∙ ap (option_map (λ (one : MarkedSymbol). one.mark)) (passes_at number one at is)
 
   pub symbol_passes : (number : ℕ) (one : MarkedSymbol) →
-      slice_get (all_marks guards normal) number ≡ Some one → present number ≡ true →
-      slice_get (encoded guards normal).problem.signature (count_below number present)
+      slice_get (all_marks c normal) number ≡ Some one → present number ≡ true →
+      slice_get (encoded c normal).problem.signature (count_below number present)
       ≡ Some one.symbol
   unfolding encoded
   symbol_passes number one at is =
       slice_get-map (λ (one : MarkedSymbol). one.symbol)
-      (passing present 0 (all_marks guards normal)) (count_below number present)
+      (passing present 0 (all_marks c normal)) (count_below number present)
       ∙ ap (option_map (λ (one : MarkedSymbol). one.symbol)) (passes_at number one at is)
 
   -- a number occurs where a mark stands for it
   pub found_occurs : (number at : ℕ) (kind : Mark) →
-      slice_get (encoded guards normal).marks at ≡ Some kind →
+      slice_get (encoded c normal).marks at ≡ Some kind →
       mark_number symbols constructors kind ≡ number → present number ≡ true
   unfolding encoded
   found_occurs number at kind found is =
       let image = map_found (λ (one : MarkedSymbol). one.mark)
-      (passing present 0 (all_marks guards normal)) at kind found in
-      let stood = passing_found present 0 (all_marks guards normal) at image.0 image.1 in
+      (passing present 0 (all_marks c normal)) at kind found in
+      let stood = passing_found present 0 (all_marks c normal) at image.0 image.1 in
       let e : 0 + stood.0 ≡ stood.0 = omega arith in
       let same : stood.0 ≡ number =
       sym (number_is stood.0 image.0 stood.1.at)
@@ -143,27 +134,27 @@ module _ (normal : Normal) where
 
   -- each number is that of a marked symbol
   numbered_one : (number : ℕ) → number < mark_count normal →
-      slice_get (all_marks guards normal) number
-      ≡ Some (get_or (all_marks guards normal) number (shared_mark ByGuard))
+      slice_get (all_marks c normal) number
+      ≡ Some (get_or (all_marks c normal) number (shared_mark ByGuard))
   numbered_one number within =
-      slice_get-get_or (all_marks guards normal) number (shared_mark ByGuard)
-      (omega (arith, within, length-all_marks))
+      slice_get-get_or (all_marks c normal) number (shared_mark ByGuard)
+      (omega (arith, within, all_marks-count))
 
   -- where a number occurs, there is a mark for it
   pub occurs_within : (number : ℕ) → number < mark_count normal → present number ≡ true →
-      count_below number present < length (encoded guards normal).marks
+      count_below number present < length (encoded c normal).marks
   occurs_within number within is =
-      slice_get_within (encoded guards normal).marks (count_below number present) _
+      slice_get_within (encoded c normal).marks (count_below number present) _
       (mark_passes number _ (numbered_one number within) is)
 
   pub occurs_number : (number : ℕ) (kind : Mark) → number < mark_count normal →
       present number ≡ true →
-      kind ≡ get_or (encoded guards normal).marks (count_below number present) kind →
+      kind ≡ get_or (encoded c normal).marks (count_below number present) kind →
       mark_number symbols constructors kind ≡ number
   occurs_number number kind within is read =
-      let one = get_or (all_marks guards normal) number (shared_mark ByGuard) in
+      let one = get_or (all_marks c normal) number (shared_mark ByGuard) in
       let there = mark_passes number one (numbered_one number within) is in
-      let same : kind ≡ one.mark = read ∙ get_or_from (encoded guards normal).marks
+      let same : kind ≡ one.mark = read ∙ get_or_from (encoded c normal).marks
       (count_below number present) one.mark kind there in
       ap (mark_number symbols constructors) same
       ∙ number_is number one (numbered_one number within)
@@ -175,21 +166,21 @@ module _ (normal : Normal) where
       get_or_from (first ∷ items) (suc i) item d at = get_or_from items i item d at
 
   -- the next mark, as code reads it
-  module _ (marks : List Mark) (are : marks ≡ (encoded guards normal).marks) (number at : ℕ)
+  module _ (marks : List Mark) (are : marks ≡ (encoded c normal).marks) (number at : ℕ)
       (other : Mark)
     where
       pub occurs_here : at < length marks →
           mark_number (length normal.signature.symbols) (length normal.signature.constructors)
           (get_or marks at other) ≡ number →
-          occurs_in normal number ≡ true
+          occurs_in c normal number ≡ true
       occurs_here within is =
           found_occurs number at (get_or marks at other)
           (ap (λ (ms : List Mark). slice_get ms at) (sym are) ∙ slice_get-get_or marks at other within)
           is
 
-      module _ (inside : number < mark_count normal) (so_far : at ≡ count_below number (occurs_in normal))
+      module _ (inside : number < mark_count normal) (so_far : at ≡ count_below number (occurs_in c normal))
         where
-          pub fails_past : length marks ≤ at → occurs_in normal number ≡ false
+          pub fails_past : length marks ≤ at → occurs_in c normal number ≡ false
           fails_past past =
               ⊎_elim
               (λ is. absurd (omega (
@@ -204,36 +195,36 @@ module _ (normal : Normal) where
           pub fails_other : at < length marks →
               (mark_number (length normal.signature.symbols) (length normal.signature.constructors)
               (get_or marks at other) ≡ number → ⊥) →
-              occurs_in normal number ≡ false
+              occurs_in c normal number ≡ false
           fails_other within differs =
               ⊎_elim
               (λ is.
               absurd (differs (occurs_number number (get_or marks at other) inside is
               (get_or_default marks at other (get_or marks at other) within
               ∙ ap (λ (ms : List Mark). get_or ms at (get_or marks at other)) are
-              ∙ ap (λ n. get_or (encoded guards normal).marks n (get_or marks at other)) so_far))))
+              ∙ ap (λ n. get_or (encoded c normal).marks n (get_or marks at other)) so_far))))
               (λ fails. fails) (cases_Bool (present number))
 
   -- a place more
   module _ (places : List (Option ℕ)) (number at : ℕ) (length_is : length places ≡ number)
-      (each : (m : ℕ) → m < number → get_or places m None ≡ place_in (occurs_in normal) m)
-      (so_far : at ≡ count_below number (occurs_in normal))
+      (each : (m : ℕ) → m < number → get_or places m None ≡ place_in (occurs_in c normal) m)
+      (so_far : at ≡ count_below number (occurs_in c normal))
     where
-      pub some_more : occurs_in normal number ≡ true → (m : ℕ) → m < number + 1 →
-          get_or (places ++ Some at ∷ []) m None ≡ place_in (occurs_in normal) m
+      pub some_more : occurs_in c normal number ≡ true → (m : ℕ) → m < number + 1 →
+          get_or (places ++ Some at ∷ []) m None ≡ place_in (occurs_in c normal) m
       some_more occurs =
           each_pushed (λ k p. p ≡ place_in present k) places None (Some at) number length_is each
           (ap Some so_far
           ∙ sym (ap (λ b. cond b (Some (count_below number present)) None) occurs))
 
-      pub none_more : occurs_in normal number ≡ false → (m : ℕ) → m < number + 1 →
-          get_or (places ++ None ∷ []) m None ≡ place_in (occurs_in normal) m
+      pub none_more : occurs_in c normal number ≡ false → (m : ℕ) → m < number + 1 →
+          get_or (places ++ None ∷ []) m None ≡ place_in (occurs_in c normal) m
       none_more fails =
           each_pushed (λ k p. p ≡ place_in present k) places None None number length_is each
           (sym (ap (λ b. cond b (Some (count_below number present)) None) fails))
 
   -- what is read among the places of marks
-  module _ (places : List (Option ℕ)) (are : ArePlaces (occurs_in normal) (mark_count normal) places)
+  module _ (places : List (Option ℕ)) (are : ArePlaces (occurs_in c normal) (mark_count normal) places)
       (number : ℕ) (within : number < mark_count normal) (other : Option ℕ)
     where
       read : get_or places number other ≡ place_in present number
@@ -242,25 +233,25 @@ module _ (normal : Normal) where
           ∙ are.each number within
 
       pub read_some : (at : ℕ) → get_or places number other ≡ Some at →
-          (occurs_in normal number ≡ true) × (count_below number (occurs_in normal) ≡ at)
+          (occurs_in c normal number ≡ true) × (count_below number (occurs_in c normal) ≡ at)
       read_some at is =
           place_some (present number) (count_below number present) at (sym read ∙ is)
 
-      pub read_none : get_or places number other ≡ None → occurs_in normal number ≡ false
+      pub read_none : get_or places number other ≡ None → occurs_in c normal number ≡ false
       read_none is = place_none (present number) (count_below number present) (sym read ∙ is)
 
-  module _ (s : Structure) (well : IsWellFormed (encoded guards normal).problem.signature s) where
-    pub table_within : (number : ℕ) → number < mark_count normal → occurs_in normal number ≡ true →
-        count_below number (occurs_in normal) < length s.tables
+  module _ (s : Structure) (well : IsWellFormed (encoded c normal).problem.signature s) where
+    pub table_within : (number : ℕ) → number < mark_count normal → occurs_in c normal number ≡ true →
+        count_below number (occurs_in c normal) < length s.tables
     table_within number within is =
-        let there = slice_get_within (encoded guards normal).problem.signature
+        let there = slice_get_within (encoded c normal).problem.signature
         (count_below number present) _ (symbol_passes number _ (numbered_one number within) is) in
         omega (arith, there, well.count)
 
     pub table_is : (number at : ℕ) (found : List ℕ) (tables : List (List ℕ)) →
-        number < mark_count normal → occurs_in normal number ≡ true →
-        count_below number (occurs_in normal) ≡ at → tables ≡ s.tables →
-        found ≡ get_or tables at found → found ≡ marked_table (occurs_in normal) s number
+        number < mark_count normal → occurs_in c normal number ≡ true →
+        count_below number (occurs_in c normal) ≡ at → tables ≡ s.tables →
+        found ≡ get_or tables at found → found ≡ marked_table (occurs_in c normal) s number
     table_is number at found tables within occurs is same read =
         let inside : at < length s.tables =
         subst (λ n. n < length s.tables) is (table_within number within occurs) in
@@ -271,7 +262,7 @@ module _ (normal : Normal) where
         ∙ ap (λ b. cond b (get_or s.tables (count_below number present) []) []) (sym occurs)
 
     table_long : (number : ℕ) (one : MarkedSymbol) →
-        slice_get (all_marks guards normal) number ≡ Some one → (b : Bool) → present number ≡ b →
+        slice_get (all_marks c normal) number ≡ Some one → (b : Bool) → present number ≡ b →
         0 < length (cond b (table_of s (count_below number present)) []) →
         length (cond b (table_of s (count_below number present)) [])
         ≡ tuple_count (replicate one.symbol.arity s.size)
@@ -279,50 +270,101 @@ module _ (normal : Normal) where
         (well.tables (count_below number present) one.symbol (symbol_passes number one at is)).count
     table_long number one at false is some = absurd (omega (arith, some))
 
+    table_present : (number : ℕ) (one : MarkedSymbol) →
+        slice_get (all_marks c normal) number ≡ Some one → present number ≡ true →
+        length (marked_table present s number) ≡ tuple_count (replicate one.symbol.arity s.size)
+    table_present number one at is =
+        ap (λ b. length (cond b (table_of s (count_below number present)) [])) is
+        ∙ (well.tables (count_below number present) one.symbol (symbol_passes number one at is)).count
+
     -- a table that has an entry has one for each tuple
-    pub symbol_long : (f : ℕ) (symbol : Symbol) → slice_get normal.signature.symbols f ≡ Some symbol →
-        0 < length (marked_table (occurs_in normal) s f) →
-        length (marked_table (occurs_in normal) s f)
-        ≡ tuple_count (replicate (symbol.parameters + length symbol.arguments) s.size)
-    symbol_long f symbol at some =
-        table_long f _ (symbol-at guards normal f symbol at) (present f) refl some
-        ∙ ap (λ n. tuple_count (replicate (n + length symbol.arguments) s.size))
-        (kept_all symbol.parameters)
+    module _ (f : ℕ) (symbol : Symbol) (at : slice_get normal.signature.symbols f ≡ Some symbol) where
+      pub symbol_long : c.keeps symbol ≡ all_types symbol →
+          present f ≡ true →
+          length (marked_table (occurs_in c normal) s f)
+          ≡ tuple_count (replicate (symbol.parameters + length symbol.arguments) s.size)
+      symbol_long keeps is =
+          table_present f _ (symbol-at c normal f symbol at) is
+          ∙ ap (λ n. tuple_count (replicate (n + length symbol.arguments) s.size))
+          (ap (count_by (λ (k : Bool). k)) keeps ∙ kept_all symbol.parameters)
+
+      -- and the entries of a function's are numbers of the domain
+      pub symbol_below : (ty : Ty) → symbol.result ≡ Some ty → (i : ℕ) →
+          i < length (marked_table (occurs_in c normal) s f) →
+          slice_index (marked_table (occurs_in c normal) s f) i < s.size
+      symbol_below ty gives i = by (present f) refl
+        where
+          kind : is_none symbol.result ≡ false
+          kind = ap is_none gives
+
+          by : (b : Bool) → present f ≡ b →
+              i < length (cond b (table_of s (count_below f present)) []) →
+              slice_index (cond b (table_of s (count_below f present)) []) i < s.size
+          by true is within =
+              subst (λ k. slice_index (table_of s (count_below f present)) i < cond k 2 s.size) kind
+              ((well.tables (count_below f present) _
+              (symbol_passes f _ (symbol-at c normal f symbol at) is)).below i within)
+          by false is within = absurd (omega (arith, within))
 
     pub constructor_long : (i : ℕ) (constructor : Constructor) →
         slice_get normal.signature.constructors i ≡ Some constructor →
-        0 < length (marked_table (occurs_in normal) s (length normal.signature.symbols + i)) →
-        length (marked_table (occurs_in normal) s (length normal.signature.symbols + i))
+        0 < length (marked_table (occurs_in c normal) s (length normal.signature.symbols + i)) →
+        length (marked_table (occurs_in c normal) s (length normal.signature.symbols + i))
         ≡ tuple_count (replicate constructor.arity s.size)
     constructor_long i constructor at some =
-        table_long (symbols + i) _ (constructor-at guards normal i constructor at)
+        table_long (symbols + i) _ (constructor-at c normal i constructor at)
         (present (symbols + i)) refl some
 
-    pub guard_long :
-        0 < length (marked_table (occurs_in normal) s
-        (length normal.signature.symbols + length normal.signature.constructors)) →
-        length (marked_table (occurs_in normal) s
+    pub mark_long :
+        present (length normal.signature.symbols + length normal.signature.constructors) ≡ true →
+        length (marked_table (occurs_in c normal) s
         (length normal.signature.symbols + length normal.signature.constructors))
         ≡ tuple_count (replicate 2 s.size)
-    guard_long some =
-        table_long (symbols + constructors) _ (shared-at guards normal refl)
-        (present (symbols + constructors)) refl some
+    mark_long is = table_present (symbols + constructors) _ (shared-at c normal by_type) is
 
-  -- what a marked symbol gives stands in its table
+  -- what a marked symbol that is no tag gives stands in its table
   pub entry_is : (s : Structure) (number : ℕ) (values : List ℕ) →
-      (marked_structure guards normal s).symbol_at number values
-      ≡ slice_index (marked_table (occurs_in normal) s number)
+      is_tag c normal number ≡ false →
+      (marked_structure c normal s).symbol_at number values
+      ≡ slice_index (marked_table (occurs_in c normal) s number)
       (place (replicate (length values) s.size) values)
-  entry_is s number values = by (present number)
+  entry_is s number values plain = by (present number)
     where
       by : (b : Bool) →
           cond b
           (slice_index (table_of s (count_below number present))
-          (place (replicate (length values) s.size) values)) 0
+          (place (replicate (length values) s.size) values))
+          (cond (is_tag c normal number) (last_of values) 0)
           ≡ slice_index (cond b (table_of s (count_below number present)) [])
           (place (replicate (length values) s.size) values)
       by true = refl
-      by false = refl
+      by false = ap (λ tag. cond tag (last_of values) 0) plain
+
+  -- and so does what one gives that occurs
+  pub entry_present : (s : Structure) (number : ℕ) (values : List ℕ) →
+      occurs_in c normal number ≡ true →
+      (marked_structure c normal s).symbol_at number values
+      ≡ slice_index (marked_table (occurs_in c normal) s number)
+      (place (replicate (length values) s.size) values)
+  entry_present s number values is =
+      ap (λ b. cond b
+      (slice_index (table_of s (count_below number present))
+      (place (replicate (length values) s.size) values))
+      (cond (is_tag c normal number) (last_of values) 0)) is
+      ∙ sym (ap (λ b. slice_index (cond b (table_of s (count_below number present)) [])
+      (place (replicate (length values) s.size) values)) is)
+
+  -- symbols and constructors are no tags
+  pub plain_number : (number : ℕ) →
+      number < length normal.signature.symbols + length normal.signature.constructors →
+      is_tag c normal number ≡ false
+  plain_number number within =
+      ap (λ b. b && not (is_guard c.binding)) (lt-leb (symbols + constructors) number within)
+
+-- a table that has an entry is of a symbol that occurs
+pub some_occurs : (b : Bool) (table : List ℕ) → (length (cond b table []) ≡ 0 → ⊥) → b ≡ true
+some_occurs true table some = refl
+some_occurs false table some = absurd (some refl)
 
 -- nothing stands in an empty table
 pub entry_none : (table : List ℕ) (i : ℕ) → length table ≡ 0 → 0 ≡ slice_index table i
@@ -344,43 +386,67 @@ two_fit size member number first second =
       place_within (replicate 2 size) (member ∷ number ∷ []) (first, (second, tt)),
     )
 
--- a guard's table, as code reads it
-module _ (m : Marked)
-    (well : IsWellFormed (encoded guards m.normal.now).problem.signature m.model.now)
+-- the table of the guard or tag, as code reads it
+module _ (m : Parts) (by_type : m.choices.marking ≡ ByType)
+    (well : IsWellFormed (encoded m.choices m.normal).problem.signature m.model)
     (symbols : List Symbol) (constructors : List Constructor) (table : List ℕ)
-    (symbols_are : symbols ≡ m.normal.now.signature.symbols)
-    (constructors_are : constructors ≡ m.normal.now.signature.constructors)
+    (symbols_are : symbols ≡ m.normal.signature.symbols)
+    (constructors_are : constructors ≡ m.normal.signature.constructors)
     (table_of : table ≡ table_in m (length symbols + length constructors))
+    (member number : ℕ) (member_within : member < m.model.size)
+    (number_within : number < m.model.size)
   where
-    abbrev guard_number : ℕ
-    guard_number =
-        length m.normal.now.signature.symbols + length m.normal.now.signature.constructors
+    abbrev shared : ℕ
+    shared = length m.normal.signature.symbols + length m.normal.signature.constructors
 
-    pub guard_read : table ≡ table_in m guard_number
-    guard_read =
+    mark_read : table ≡ table_in m shared
+    mark_read =
         table_of
         ∙ ap (λ (xs : List Symbol). table_in m (length xs + length constructors)) symbols_are
         ∙ ap
-        (λ (cs : List Constructor). table_in m (length m.normal.now.signature.symbols + length cs))
+        (λ (cs : List Constructor). table_in m (length m.normal.signature.symbols + length cs))
         constructors_are
 
-    pub guard_is_long : (length table ≡ 0 → ⊥) →
-        length table ≡ tuple_count (replicate 2 m.model.now.size)
-    guard_is_long some =
-        let same : length table ≡ length (table_in m guard_number) = ap length guard_read in
-        let more : 0 < length table = omega (arith, some) in
-        same ∙ guard_long m.normal.now m.model.now well (omega (arith, same, more))
+    mark_fills : occurs_in m.choices m.normal shared ≡ true →
+        length table ≡ tuple_count (replicate 2 m.model.size)
+    mark_fills is = ap length mark_read ∙ mark_long m.choices m.normal by_type m.model well is
 
-    pub picked_is : (member number at : ℕ) → at ≡ member * m.model.now.size + number →
-        eqb (slice_index table at) 1 ≡ picks_in m member number
-    picked_is member number at is =
-        ap (λ v. eqb v 1)
-        (ap (λ t. slice_index t at) guard_read
-        ∙ ap (slice_index (table_in m guard_number))
-        (is ∙ place_two m.model.now.size member number)
-        ∙ sym (entry_is m.normal.now m.model.now guard_number (member ∷ number ∷ [])))
+    shared_occurs : (length table ≡ 0 → ⊥) → occurs_in m.choices m.normal shared ≡ true
+    shared_occurs some =
+        some_occurs (occurs_in m.choices m.normal shared) _
+        (λ none. some (ap length mark_read ∙ none))
 
-    pub none_picked : (member number : ℕ) → length table ≡ 0 → false ≡ picks_in m member number
-    none_picked member number none =
-        ap (λ v. eqb v 1) (entry_none table (member * m.model.now.size + number) none)
-        ∙ picked_is member number (member * m.model.now.size + number) refl
+    pub mark_inside : (length table ≡ 0 → ⊥) → member * m.model.size + number < length table
+    mark_inside some =
+        omega (
+          arith,
+          mark_fills (shared_occurs some),
+          two_fit m.model.size member number member_within number_within,
+        )
+
+    pub mark_is : (length table ≡ 0 → ⊥) →
+        slice_index table (member * m.model.size + number) ≡ mark_in m member number
+    mark_is some =
+        ap (λ t. slice_index t (member * m.model.size + number)) mark_read
+        ∙ ap (slice_index (table_in m shared)) (place_two m.model.size member number)
+        ∙ sym (entry_present m.choices m.normal by_type m.model shared (member ∷ number ∷ [])
+        (shared_occurs some))
+
+    -- an absent guard gives 0, and an absent tag the number itself
+    pub mark_none : length table ≡ 0 →
+        cond (not (is_guard m.choices.binding)) number 0 ≡ mark_in m member number
+    mark_none none =
+        ⊎_elim
+        (λ is. absurd (omega (
+          arith,
+          none,
+          mark_fills is,
+          two_fit m.model.size member number member_within number_within,
+        )))
+        (λ fails.
+        sym (ap (λ b. cond b ((reading m.model).symbol_at
+        (count_below shared (occurs_in m.choices m.normal)) (member ∷ number ∷ []))
+        (cond (is_tag m.choices m.normal shared) number 0)) fails
+        ∙ ap (λ b. cond (b && not (is_guard m.choices.binding)) number 0)
+        (le-leb shared shared (omega arith))))
+        (cases_Bool (occurs_in m.choices m.normal shared))

@@ -1,5 +1,5 @@
 -- What the symbols of an encoded problem stand for, and what the merged structure gives for each.
-use Rattle.std.specs.Prelude.{ℕ, zero, suc, ◌≡◌, ◌<◌, ◌≤◌, ◌+◌, ◌++◌, Bool, true, List, [], ◌∷◌, map, length, replicate, cond, get_or, slice_get, option_map, Some}
+use Rattle.std.specs.Prelude.{ℕ, zero, suc, ◌≡◌, ◌<◌, ◌≤◌, ◌+◌, ◌++◌, Bool, true, List, [], ◌∷◌, map, length, replicate, cond, count_by, get_or, slice_get, option_map, Some}
 use Rattle.std.proofs.Common.{refl, sym, ap, subst, ◌∙◌, arith}
 use Rattle.std.proofs.lemmas.Bool.{lt-ltb}
 use Rattle.std.proofs.lemmas.List.{length-replicate, length-map, length-append}
@@ -10,15 +10,17 @@ use Rattle.tf_core.specs.declared.signature.Symbol.{Symbol}
 use Rattle.tf_core.specs.declared.normal.Normal.{Normal}
 use Rattle.tf_core.specs.TypedTables.{constructor_entry}
 use Rattle.fof_models.specs.declared.problem.FofSymbol.{FofSymbol}
-use Rattle.tf_models.proofs.Placing.{EachBelow-same_length}
+use Rattle.enc_base.proofs.Placing.{EachBelow-same_length}
 use Rattle.tf_stamp.specs.Merged.{merged_size}
 use Rattle.structure_tables.specs.Sources.{AreElementsFor}
 use Rattle.enc_marks.specs.declared.mark.Mark.{Mark}
 use Rattle.enc_marks.specs.declared.mark.Mark.TheVariants as mark
 use Rattle.enc_marks.specs.declared.encoded.Encoded.{Encoded}
-use Rattle.enc_marks.specs.Choices.{Choices, Binding, ByGuard, ByTag}
+use Rattle.enc_marks.specs.declared.choices.Marking.TheVariants.{ByType}
+use Rattle.enc_marks.specs.declared.choices.Binding.{Binding}
+use Rattle.enc_marks.specs.declared.choices.Binding.TheVariants.{ByGuard, ByTag}
+use Rattle.enc_marks.specs.Choices.{Choices}
 use Rattle.enc_marks.specs.Occurrence.{count_below, passing}
-use Rattle.enc_marks.specs.Uniform.{uniform}
 use Rattle.enc_marks.specs.Encoded.{MarkedSymbol, marked_symbol, marked_constructor, shared_mark, marked_symbols, marked_constructors, own_marks, all_marks, is_present, translation, encoded}
 use Rattle.enc_marks.proofs.SoundMarks.{length-passing}
 use Rattle.enc_laws.specs.MergedStructure.{kept_count, merged_mark}
@@ -26,9 +28,8 @@ use Rattle.enc_laws.specs.Ranks.{nth}
 use Rattle.enc_laws.proofs.Ranked.{nth-count_below}
 use Rattle.enc_laws.proofs.MergedStructure.{symbol_at-other, symbol_at-shared}
 use Rattle.enc_laws.proofs.MarksFound.{passing_found, map_found, InLists, in_first, in_second, lists_found, symbol_found, constructor_found, length-symbols, length-constructors}
-use Rattle.enc_models.specs.declared.merging.Merging.{Merging}
-use Rattle.enc_models.specs.Merging.{choices_in, signature_in, tables_in, typed_in, merged_in, structure_in, members_in, IsMerging, AreNumbers, IsSymbolFor, IsConstructorFor}
-use Rattle.enc_models.specs.Starts.{AreMarksIn}
+use Rattle.enc_models.specs.Calls.Merging.{Parts, signature_in, tables_in, typed_in, merged_in, structure_in, members_in, IsMerging, AreNumbers, IsSymbolFor, IsConstructorFor}
+use Rattle.enc_models.specs.Calls.Blocks.{AreMarksIn}
 use Rattle.enc_models.proofs.Symbols.{kept_all}
 
 -- a symbol of the encoded problem is a marked one that occurs
@@ -212,21 +213,50 @@ module _ (c : Choices) (normal : Normal) where
       (lists_found (marked_constructors normal 0 normal.signature.constructors)
       (shared_mark c.binding ∷ []) behind one found))
 
+  module _ (by_type : c.marking ≡ ByType) where
+    pub marks_by_type : all_marks c normal
+        ≡ marked_symbols c 0 normal.signature.symbols
+        ++ (marked_constructors normal 0 normal.signature.constructors
+        ++ shared_mark c.binding ∷ [])
+    marks_by_type =
+        ap (λ marking. marked_symbols c 0 normal.signature.symbols
+        ++ (marked_constructors normal 0 normal.signature.constructors
+        ++ own_marks normal c.binding marking)) by_type
+
+    pub stands_at : (number : ℕ) (one : MarkedSymbol) →
+        slice_get (all_marks c normal) number ≡ Some one →
+        IsStanding c normal c.binding number one
+    stands_at number one found =
+        stands number one
+        (lists_found (marked_symbols c 0 normal.signature.symbols) _ number one
+        (ap (λ (ms : List MarkedSymbol). slice_get ms number) (sym marks_by_type) ∙ found))
+
+    pub length-all_marks : length (all_marks c normal)
+        ≡ length normal.signature.symbols + (length normal.signature.constructors + 1)
+    length-all_marks =
+        ap length marks_by_type
+        ∙ length-append _ _
+        ∙ ap (λ n. n + length (marked_constructors normal 0 normal.signature.constructors
+        ++ shared_mark c.binding ∷ [])) (length-symbols c 0 normal.signature.symbols)
+        ∙ ap (λ n. length normal.signature.symbols + n)
+        (length-append _ _
+        ∙ ap (λ n. n + 1) (length-constructors normal 0 normal.signature.constructors))
+
 -- a symbol of the source, numbers for its arguments, and what the source gives for them
-pub record IsSymbolOf (m : Merging) (at : ℕ) (values : List ℕ) : Type 0 where
+pub record IsSymbolOf (m : Parts) (at : ℕ) (values : List ℕ) : Type 0 where
   pub one : MarkedSymbol
   pub number : ℕ
-  pub mark_at : slice_get m.encoded.now.marks at ≡ Some one.mark
-  pub standing : IsStanding (choices_in m) m.normal.now (choices_in m).binding number one
+  pub mark_at : slice_get m.encoded.marks at ≡ Some one.mark
+  pub standing : IsStanding (m.choices) m.normal (m.choices).binding number one
   pub below : AreNumbers m one.symbol.arity values
   pub value_is : (structure_in m).symbol_at at values ≡ (merged_in m).symbol_at number values
 
-pub symbol_of : (m : Merging) → IsMerging m → (at : ℕ) (values : List ℕ) →
-    AreElementsFor m.encoded.now.problem.signature (structure_in m) at values →
+pub symbol_of : (m : Parts) → IsMerging m → (at : ℕ) (values : List ℕ) →
+    AreElementsFor m.encoded.problem.signature (structure_in m) at values →
     IsSymbolOf m at values
 symbol_of m ready at values given =
-    let c : Choices = choices_in m in
-    let normal : Normal = m.normal.now in
+    let c : Choices = m.choices in
+    let normal : Normal = m.normal in
     let there : slice_get (encoded c normal).problem.signature at ≡ Some given.symbol =
     ap (λ (e : Encoded). slice_get e.problem.signature at) (sym ready.encoded_is) ∙ given.at in
     let found = encoded_at c normal at given.symbol there in
@@ -236,27 +266,25 @@ symbol_of m ready at values given =
       number = number.0;
       mark_at = ap (λ (e : Encoded). slice_get e.marks at) ready.encoded_is ∙ found.1.mark_at;
       standing =
-          stands c normal number.0 found.0
-          (lists_found (marked_symbols c 0 normal.signature.symbols) _ number.0 found.0
-          number.1.found);
+          stands_at c normal ready.by_type number.0 found.0 number.1.found;
       below =
           subst (λ (symbol : FofSymbol). AreNumbers m symbol.arity values)
           (sym found.1.symbol_is) given.below;
       value_is = ap (λ n. (merged_in m).symbol_at n values) number.1.is;
     }
 
-module _ (m : Merging) (at : ℕ) (values : List ℕ) (of : IsSymbolOf m at values)
-    (marks : List Mark) (same : marks ≡ m.encoded.now.marks) (found other : Mark)
+module _ (m : Parts) (at : ℕ) (values : List ℕ) (of : IsSymbolOf m at values)
+    (marks : List Mark) (same : marks ≡ m.encoded.marks) (found other : Mark)
     (is : get_or marks at other ≡ found)
   where
     mark_is : of.one.mark ≡ found
     mark_is =
-        sym (get_or_from_slice_get m.encoded.now.marks at of.one.mark other of.mark_at)
+        sym (get_or_from_slice_get m.encoded.marks at of.one.mark other of.mark_at)
         ∙ ap (λ (ms : List Mark). get_or ms at other) (sym same)
         ∙ is
 
-    pub symbol_for : (f : ℕ) → found ≡ mark.Symbol f → IsSymbolFor m at f values
-    symbol_for f variant =
+    pub symbol_for : IsMerging m → (f : ℕ) → found ≡ mark.Symbol f → IsSymbolFor m at f values
+    symbol_for ready f variant =
         let at_f = of.standing.on_symbol f (mark_is ∙ variant) in
         record {
           symbol = at_f.1.0;
@@ -266,7 +294,10 @@ module _ (m : Merging) (at : ℕ) (values : List ℕ) (of : IsSymbolOf m at valu
           };
           below =
               subst (λ n. AreNumbers m n values)
-              (at_f.1.2 ∙ ap (λ n. n + length at_f.1.0.arguments) (kept_all at_f.1.0.parameters))
+              (at_f.1.2
+              ∙ ap (λ n. n + length at_f.1.0.arguments)
+              (ap (count_by (λ (k : Bool). k)) (ready.kept at_f.1.0)
+              ∙ kept_all at_f.1.0.parameters))
               of.below;
         }
 
@@ -293,9 +324,9 @@ module _ (m : Merging) (at : ℕ) (values : List ℕ) (of : IsSymbolOf m at valu
         let at_i = of.standing.on_constructor i (mark_is ∙ variant) in
         sym (of.value_is
         ∙ ap (λ n. (merged_in m).symbol_at n values) at_i.0
-        ∙ symbol_at-other (choices_in m) m.normal.now (typed_in m) i values
+        ∙ symbol_at-other (m.choices) m.normal (typed_in m) i values
         ∙ ap (λ w. cond w (constructor_entry (tables_in m) i (members_in m values))
-        (merged_mark (typed_in m) (choices_in m).binding values))
+        (merged_mark (typed_in m) (m.choices).binding values))
         (lt-ltb i (length (signature_in m).constructors)
         (slice_get_within (signature_in m).constructors i at_i.1.0 at_i.1.1)))
 
@@ -304,9 +335,9 @@ module _ (m : Merging) (at : ℕ) (values : List ℕ) (of : IsSymbolOf m at valu
 
     pub guard_two : found ≡ mark.Guard → length values ≡ 2
     guard_two variant =
-        sym (EachBelow-same_length (replicate of.one.symbol.arity (merged_size m.model.now.sizes))
+        sym (EachBelow-same_length (replicate of.one.symbol.arity (merged_size m.model.sizes))
         values of.below)
-        ∙ length-replicate of.one.symbol.arity (merged_size m.model.now.sizes)
+        ∙ length-replicate of.one.symbol.arity (merged_size m.model.sizes)
         ∙ (of.standing.on_guard (mark_is ∙ variant)).1
 
     pub guard_gives : found ≡ mark.Guard →
@@ -315,7 +346,7 @@ module _ (m : Merging) (at : ℕ) (values : List ℕ) (of : IsSymbolOf m at valu
         let own = of.standing.on_guard (mark_is ∙ variant) in
         sym (of.value_is
         ∙ ap (λ n. (merged_in m).symbol_at n values) own.0
-        ∙ symbol_at-shared (choices_in m) m.normal.now (typed_in m) values
+        ∙ symbol_at-shared (m.choices) m.normal (typed_in m) values
         ∙ ap (λ binding. merged_mark (typed_in m) binding values) own.2)
 
     pub tag_arity : found ≡ mark.Tag → of.one.symbol.arity ≡ 2
@@ -323,9 +354,9 @@ module _ (m : Merging) (at : ℕ) (values : List ℕ) (of : IsSymbolOf m at valu
 
     pub tag_two : found ≡ mark.Tag → length values ≡ 2
     tag_two variant =
-        sym (EachBelow-same_length (replicate of.one.symbol.arity (merged_size m.model.now.sizes))
+        sym (EachBelow-same_length (replicate of.one.symbol.arity (merged_size m.model.sizes))
         values of.below)
-        ∙ length-replicate of.one.symbol.arity (merged_size m.model.now.sizes)
+        ∙ length-replicate of.one.symbol.arity (merged_size m.model.sizes)
         ∙ (of.standing.on_tag (mark_is ∙ variant)).1
 
     pub tag_gives : found ≡ mark.Tag →
@@ -334,7 +365,7 @@ module _ (m : Merging) (at : ℕ) (values : List ℕ) (of : IsSymbolOf m at valu
         let own = of.standing.on_tag (mark_is ∙ variant) in
         sym (of.value_is
         ∙ ap (λ n. (merged_in m).symbol_at n values) own.0
-        ∙ symbol_at-shared (choices_in m) m.normal.now (typed_in m) values
+        ∙ symbol_at-shared (m.choices) m.normal (typed_in m) values
         ∙ ap (λ binding. merged_mark (typed_in m) binding values) own.2)
 
     pub never_sort_guard : (s : ℕ) → found ≡ mark.SortGuard s → ⊥
@@ -346,44 +377,38 @@ module _ (m : Merging) (at : ℕ) (values : List ℕ) (of : IsSymbolOf m at valu
     -- the two numbers of a guard's or tag's arguments
     pub two_below : (first second count : ℕ) → values ≡ first ∷ second ∷ [] →
         AreNumbers m count values → count ≡ 2 →
-        (first < merged_size m.model.now.sizes) × (second < merged_size m.model.now.sizes)
+        (first < merged_size m.model.sizes) × (second < merged_size m.model.sizes)
     two_below first second count two below all =
-        let each : EachBelow (replicate 2 (merged_size m.model.now.sizes)) (first ∷ second ∷ []) =
-        subst (λ vs. EachBelow (replicate 2 (merged_size m.model.now.sizes)) vs) two
+        let each : EachBelow (replicate 2 (merged_size m.model.sizes)) (first ∷ second ∷ []) =
+        subst (λ vs. EachBelow (replicate 2 (merged_size m.model.sizes)) vs) two
         (subst (λ n. AreNumbers m n values) all below) in
         (each.0, each.1.0)
 
 -- each mark of an encoded problem that stands for a symbol stands for one of the source's
-pub marks_within : (tagged guarded : Bool) (normal : Normal) →
-    AreMarksIn normal.signature (encoded (uniform tagged guarded) normal).marks
+pub marks_within : (c : Choices) (normal : Normal) → c.marking ≡ ByType →
+    AreMarksIn normal.signature (encoded c normal).marks
 unfolding encoded
-marks_within tagged guarded normal at marked found f is =
-    let c : Choices = uniform tagged guarded in
+marks_within c normal by_type at marked found f is =
     let image = map_found (λ (one : MarkedSymbol). one.mark)
     (passing (is_present (translation c normal)) 0 (all_marks c normal)) at marked found in
     let number = numbered c normal at image.0 image.1 in
-    let standing = stands c normal number.0 image.0
-    (lists_found (marked_symbols c 0 normal.signature.symbols) _ number.0 image.0 number.1.found) in
+    let standing = stands_at c normal by_type number.0 image.0 number.1.found in
     let own = standing.on_symbol f (image.2 ∙ is) in
     slice_get_within normal.signature.symbols f own.1.0 own.1.1
 
 -- it has no more symbols than are marked
-pub few_symbols : (tagged guarded : Bool) (normal : Normal) →
-    length (encoded (uniform tagged guarded) normal).problem.signature
+pub few_symbols : (c : Choices) (normal : Normal) → c.marking ≡ ByType →
+    length (encoded c normal).problem.signature
     ≤ length normal.signature.symbols + (length normal.signature.constructors + 1)
 unfolding encoded
-few_symbols tagged guarded normal =
-    let c : Choices = uniform tagged guarded in
+few_symbols c normal by_type =
     let present : ℕ → Bool = is_present (translation c normal) in
-    let counts : length (all_marks c normal)
-    ≡ length normal.signature.symbols + (length normal.signature.constructors + 1) =
-    length-append _ _
-    ∙ ap (λ n. n + length (marked_constructors normal 0 normal.signature.constructors
-    ++ own_marks normal c.binding c.marking)) (length-symbols c 0 normal.signature.symbols)
-    ∙ ap (λ n. length normal.signature.symbols + n)
-    (length-append _ _
-    ∙ ap (λ n. n + 1) (length-constructors normal 0 normal.signature.constructors)) in
     let same : length (map (λ (one : MarkedSymbol). one.symbol)
     (passing present 0 (all_marks c normal))) ≡ length (passing present 0 (all_marks c normal)) =
     length-map _ _ in
-    omega (arith, counts, same, length-passing present 0 (all_marks c normal))
+    omega (
+      arith,
+      length-all_marks c normal by_type,
+      same,
+      length-passing present 0 (all_marks c normal),
+    )

@@ -1,22 +1,12 @@
 -- The members and elements that numbers of a merged domain are read as, and the places of their
 -- tuples.
 use Rattle.std.specs.Prelude.{ℕ, zero, suc, ◌≡◌, ◌<◌, ◌≤◌, ◌+◌, ◌*◌, List, [], ◌∷◌, map, length, replicate, take, get_or, slice_index}
-use Rattle.std.proofs.Common.{refl, sym, ap, ◌∙◌, arith}
+use Rattle.std.proofs.Common.{refl, sym, ◌∙◌, arith}
 use Rattle.std.proofs.lemmas.List.{get_or-replicate, length-replicate, length-map, get_or_default}
 use Rattle.enc_base.specs.Tables.{EachBelow, tuple_count, place}
-use Rattle.tf_core.specs.declared.ty.Ty.{Ty}
-use Rattle.tf_core.specs.declared.signature.Symbol.{Symbol}
-use Rattle.tf_core.specs.declared.signature.Signature.{Signature}
-use Rattle.tf_core.specs.Typing.{AreTypes, no_types, more_types}
 use Rattle.tf_core.specs.Structures.{Typed}
-use Rattle.tf_models.specs.declared.structure.TypedStructure.{TypedStructure}
-use Rattle.tf_models.specs.Reading.{tables}
-use Rattle.tf_models.specs.Fit.{bounds_at, parameters_at, ConstructorsFit}
-use Rattle.tf_models.specs.Evaluation as evaluation
-use Rattle.tf_models.specs.Evaluation.{IsBlock, IsPlaced}
-use Rattle.tf_models.proofs.Placing.{EachBelow-at, EachBelow-same_length, place-step, place-fits, place-whole, get_or-mapped}
-use Rattle.tf_models.proofs.SymbolBlocks.{parameters_below, argument_size}
-use Rattle.tf_models.proofs.TypeMembers.{member_below, type_at}
+use Rattle.enc_base.specs.Tuples.{IsPlaced}
+use Rattle.enc_base.proofs.Placing.{EachBelow-at, EachBelow-same_length, place-step, place-fits, place-whole, get_or-mapped}
 use Rattle.tf_stamp.specs.Merged.{merged_size, member_in, element_in}
 use Rattle.tf_stamp.proofs.Merged.{member_in-within}
 use Rattle.enc_laws.specs.MergedStructure.{elements_read}
@@ -117,103 +107,78 @@ module _ (sizes : List ℕ) where
   elements_read-at (m ∷ members) (v ∷ values) (suc i) within inside =
       elements_read-at members values i (omega (arith, within)) (omega (arith, inside))
 
--- the elements that numbers are read as are elements of the members of types
-module _ (g : Signature) (model : TypedStructure) (fit : ConstructorsFit g (tables model))
-    (variables : ℕ) (members : List ℕ)
-    (below : EachBelow (replicate variables (length model.sizes)) members)
-  where
-    pub elements_below : (types : List Ty) (values : List ℕ) → AreTypes g variables types →
-        EachBelow (replicate (length types) (merged_size model.sizes)) values →
-        EachBelow (map (λ ty. slice_index model.sizes (evaluation.member_in model members ty)) types)
-        (elements_read model.sizes (map (evaluation.member_in model members) types) values)
-    elements_below [] values no_types each = tt
-    elements_below (ty ∷ types) [] typed each = absurd each
-    elements_below (ty ∷ types) (v ∷ values) (more_types x others formed rest) each =
-        let member : ℕ = evaluation.member_in model members ty in
-        let within = member_below g model fit variables members ty formed below in (
-          element_small model.sizes v member each.0 within (fit.inhabited.each member within),
-          elements_below types values rest each.1,
-        )
+-- the elements that numbers are read as are elements of their members
+elements_below : (sizes : List ℕ) → ((m : ℕ) → m < length sizes → 0 < slice_index sizes m) →
+    (ms values : List ℕ) → EachBelow (replicate (length ms) (length sizes)) ms →
+    EachBelow (replicate (length ms) (merged_size sizes)) values →
+    EachBelow (map (slice_index sizes) ms) (elements_read sizes ms values)
+elements_below sizes inhabited [] values within below = tt
+elements_below sizes inhabited (m ∷ ms) [] within below = absurd below
+elements_below sizes inhabited (m ∷ ms) (v ∷ values) within below = (
+  element_small sizes v m below.0 within.0 (inhabited m within.0),
+  elements_below sizes inhabited ms values within.1 below.1,
+)
 
--- the place of the tuple of the elements of numbers in a block, found from the left
-module _ (g : Signature) (model : TypedStructure) (symbol : Symbol) (number : ℕ)
-    (block : IsBlock g model symbol number) (values : List ℕ)
-    (below : EachBelow (replicate (length symbol.arguments) (merged_size model.sizes)) values)
+-- the place of the tuple of the elements of members that numbers are read as, found from the left
+module _ (sizes members values : List ℕ)
+    (inhabited : (m : ℕ) → m < length sizes → 0 < slice_index sizes m)
+    (within : EachBelow (replicate (length members) (length sizes)) members)
+    (below : EachBelow (replicate (length members) (merged_size sizes)) values)
   where
     abbrev bounds_of : List ℕ
-    bounds_of = bounds_at (tables model) symbol number
-
-    abbrev members_of : List ℕ
-    members_of =
-        map (evaluation.member_in model (parameters_at (tables model) symbol number))
-        symbol.arguments
+    bounds_of = map (slice_index sizes) members
 
     abbrev elements_of : List ℕ
-    elements_of = elements_read model.sizes members_of values
+    elements_of = elements_read sizes members values
 
-    pub each_element : EachBelow bounds_of elements_of
-    each_element =
-        elements_below g model block.constructors symbol.parameters
-        (parameters_at (tables model) symbol number) (parameters_below g model symbol number block)
-        symbol.arguments values block.typed.arguments below
-
-    pub as_many_values : length values ≡ length symbol.arguments
+    pub as_many_values : length values ≡ length members
     as_many_values =
-        sym (EachBelow-same_length
-        (replicate (length symbol.arguments) (merged_size model.sizes)) values below)
-        ∙ length-replicate (length symbol.arguments) (merged_size model.sizes)
+        sym (EachBelow-same_length (replicate (length members) (merged_size sizes)) values below)
+        ∙ length-replicate (length members) (merged_size sizes)
 
-    pub argument_member : (i : ℕ) (ty : Ty) → i < length symbol.arguments →
-        ty ≡ get_or symbol.arguments i ty →
-        evaluation.member_in model (parameters_at (tables model) symbol number) ty
-        < length model.sizes
-    argument_member i ty within is =
-        member_below g model block.constructors symbol.parameters
-        (parameters_at (tables model) symbol number) ty
-        (type_at g symbol.parameters i symbol.arguments ty within is block.typed.arguments)
-        (parameters_below g model symbol number block)
+    each_element : EachBelow bounds_of elements_of
+    each_element = elements_below sizes inhabited members values within below
 
-    module _ (i at size member element : ℕ) (ty : Ty) (within : i < length symbol.arguments)
-        (ty_is : ty ≡ get_or symbol.arguments i ty)
-        (member_is : member
-        ≡ evaluation.member_in model (parameters_at (tables model) symbol number) ty)
-        (size_is : size ≡ slice_index model.sizes member)
-        (element_is : element ≡ element_in model.sizes (get_or values i 0) member)
+    pub argument_member : (i : ℕ) → i < length members → get_or members i 0 < length sizes
+    argument_member i inside =
+        let there : i < length (replicate (length members) (length sizes)) =
+        omega (arith, inside, length-replicate (length members) (length sizes)) in
+        omega (
+          arith,
+          EachBelow-at (replicate (length members) (length sizes)) members i within there,
+          get_or-replicate (length members) i (length sizes) 0 inside,
+        )
+
+    module _ (i at element : ℕ) (inside : i < length members)
+        (element_is : element ≡ element_in sizes (get_or values i 0) (get_or members i 0))
         (so_far : at ≡ place (take i bounds_of) (take i elements_of))
       where
         inside_bounds : i < length bounds_of
-        inside_bounds = rw (length-map _ _) within
+        inside_bounds = rw (length-map _ _) inside
 
-        size_at : size ≡ get_or bounds_of i 0
-        size_at =
-            argument_size g model symbol number block i size ty within ty_is
-            (size_is ∙ ap (slice_index model.sizes) member_is)
+        size_at : slice_index sizes (get_or members i 0) ≡ get_or bounds_of i 0
+        size_at = sym (get_or-mapped (slice_index sizes) members i (get_or members i 0) inside
+            (get_or_default members i 0 (get_or members i 0) inside))
 
         element_at : element ≡ get_or elements_of i 0
         element_at =
-            let inside : i < length values = omega (arith, within, as_many_values) in
-            let here : member ≡ get_or members_of i 0 =
-            member_is
-            ∙ sym (get_or-mapped
-            (evaluation.member_in model (parameters_at (tables model) symbol number))
-            symbol.arguments i ty within ty_is) in
             element_is
-            ∙ ap (element_in model.sizes (get_or values i 0)) here
-            ∙ sym (elements_read-at model.sizes members_of values i
-            (rw (length-map _ _) within) inside)
+            ∙ sym (elements_read-at sizes members values i inside
+            (omega (arith, inside, as_many_values)))
 
-        pub elements-step : at * size + element
+        pub elements-step : at * slice_index sizes (get_or members i 0) + element
             ≡ place (take (i + 1) bounds_of) (take (i + 1) elements_of)
         elements-step =
-            place-step bounds_of elements_of i size element at each_element inside_bounds size_at
-            element_at so_far
+            place-step bounds_of elements_of i (slice_index sizes (get_or members i 0)) element at
+            each_element inside_bounds size_at element_at so_far
 
-        pub elements-fit : at * size + element < tuple_count bounds_of
+        pub elements-fit : at * slice_index sizes (get_or members i 0) + element
+            < tuple_count bounds_of
         elements-fit =
-            place-fits bounds_of elements_of i size element at each_element inside_bounds size_at
-            element_at so_far
+            place-fits bounds_of elements_of i (slice_index sizes (get_or members i 0)) element at
+            each_element inside_bounds size_at element_at so_far
 
-    pub elements_placed : (i at : ℕ) → length symbol.arguments ≤ i →
+    pub elements_placed : (i at : ℕ) → length members ≤ i →
         at ≡ place (take i bounds_of) (take i elements_of) → IsPlaced bounds_of elements_of at
     elements_placed i at whole so_far = record {
       place_is = so_far

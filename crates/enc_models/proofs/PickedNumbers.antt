@@ -6,9 +6,8 @@ use Rattle.enc_marks.specs.Occurrence.{count_below}
 use Rattle.enc_laws.specs.Ranks.{nth, listed}
 use Rattle.enc_laws.proofs.MarksFound.{count_below-next}
 use Rattle.enc_laws.proofs.Ranked.{nth-count_below, ranked}
-use Rattle.enc_models.specs.declared.marked.Marked.{Marked}
-use Rattle.enc_models.specs.Lifting.{picks_in, ArePicked, AreRanks, AreRows}
-use Rattle.enc_models.proofs.Beginnings.{length-pushed}
+use Rattle.enc_models.specs.Calls.Lifting.{Parts, picks_in, ArePicked, AreRanks, AreRows}
+use Rattle.enc_models.proofs.KeptBlocks.{length-pushed}
 use Rattle.enc_models.proofs.MarkedTables.{each_pushed}
 
 -- the numbers below one of them that pass, as a list whose bound is a larger one
@@ -79,36 +78,36 @@ listed-more count f =
     ∙ ap (λ n. listed count 0 f ++ f n ∷ []) e
 
 -- the elements of one member more
-pub more_rows : (m : Marked) (count : ℕ) (picked ranks : List (List ℕ)) (new_picked new_ranks : List ℕ) →
+pub more_rows : (m : Parts) (count : ℕ) (picked ranks : List (List ℕ)) (new_picked new_ranks : List ℕ) →
     AreRows m count picked ranks →
-    ArePicked (picks_in m count) m.model.now.size new_picked →
-    AreRanks (picks_in m count) m.model.now.size new_ranks →
+    ArePicked (picks_in m count) m.model.size new_picked →
+    AreRanks (picks_in m count) m.model.size new_ranks →
     AreRows m (count + 1) (picked ++ new_picked ∷ []) (ranks ++ new_ranks ∷ [])
 more_rows m count picked ranks new_picked new_ranks are picks ranked = record {
   picked_count = omega (arith, length-pushed picked new_picked, are.picked_count);
   ranks_count = omega (arith, length-pushed ranks new_ranks, are.ranks_count);
   each_picked = λ member within.
-      each_pushed (λ k row. ArePicked (picks_in m k) m.model.now.size row) picked [] new_picked
+      each_pushed (λ k row. ArePicked (picks_in m k) m.model.size row) picked [] new_picked
       count are.picked_count are.each_picked picks member within;
   each_ranks = λ member within.
-      each_pushed (λ k row. AreRanks (picks_in m k) m.model.now.size row) ranks [] new_ranks
+      each_pushed (λ k row. AreRanks (picks_in m k) m.model.size row) ranks [] new_ranks
       count are.ranks_count are.each_ranks ranked member within;
 }
 
 -- the elements of a member, as code reads them
-module _ (m : Marked) (count : ℕ) (picked ranks : List (List ℕ)) (are : AreRows m count picked ranks)
+module _ (m : Parts) (count : ℕ) (picked ranks : List (List ℕ)) (are : AreRows m count picked ranks)
     (member : ℕ) (within : member < count) (row other : List ℕ)
   where
     pub picked_row : row ≡ get_or picked member other →
-        ArePicked (picks_in m member) m.model.now.size row
+        ArePicked (picks_in m member) m.model.size row
     picked_row is =
-        subst (ArePicked (picks_in m member) m.model.now.size)
+        subst (ArePicked (picks_in m member) m.model.size)
         (sym (is ∙ get_or_default picked member other [] (omega (arith, within, are.picked_count))))
         (are.each_picked member within)
 
     pub ranks_row : row ≡ get_or ranks member other →
-        AreRanks (picks_in m member) m.model.now.size row
+        AreRanks (picks_in m member) m.model.size row
     ranks_row is =
-        subst (AreRanks (picks_in m member) m.model.now.size)
+        subst (AreRanks (picks_in m member) m.model.size)
         (sym (is ∙ get_or_default ranks member other [] (omega (arith, within, are.ranks_count))))
         (are.each_ranks member within)

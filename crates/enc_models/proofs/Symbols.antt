@@ -1,31 +1,35 @@
 -- What a symbol of the merged structure gives, from the table of the typed one.
-use Rattle.std.specs.Prelude.{ℕ, zero, suc, ◌≡◌, ◌<◌, ◌≤◌, ◌+◌, Bool, true, cond, List, [], ◌∷◌, map, length, replicate, take, drop, get_or, count_by, slice_index, Option, Some, None}
+use Rattle.std.specs.Prelude.{ℕ, zero, suc, ◌≡◌, ◌<◌, ◌≤◌, ◌+◌, Bool, true, cond, List, [], ◌∷◌, map, length, replicate, take, drop, get_or, count_by, option_map, slice_index, Option, Some, None}
 use Rattle.std.proofs.Common.{refl, sym, ap, subst, ◌∙◌, arith}
 use Rattle.std.proofs.lemmas.List.{length-replicate, length-map, get_or_default}
 use Rattle.std.proofs.lemmas.List.Sums.{sum_by-cons}
+use Rattle.std.proofs.lemmas.Simd.{map-map}
 use Rattle.std.proofs.lemmas.Option.{slice_get_within, get_or_from_slice_get}
-use Rattle.enc_base.specs.Tables.{tuple_count, place}
+use Rattle.enc_base.specs.Tables.{EachBelow, tuple_count, place}
 use Rattle.tf_core.specs.declared.ty.Ty.{Ty}
 use Rattle.tf_core.specs.declared.signature.Symbol.{Symbol}
-use Rattle.tf_core.specs.Typing.{IsType}
 use Rattle.tf_core.specs.Structures.{AreArguments}
+use Rattle.tf_naked.specs.Covers.{argument_parameters}
 use Rattle.tf_core.specs.TypedTables.{constructor_entry, symbol_entry}
-use Rattle.tf_models.specs.Fit.{parameters_at, block_count}
-use Rattle.tf_models.specs.TupleNumbers.{tuple_at}
+use Rattle.tf_models.specs.Fit.{bounds_at, parameters_at, block_count}
+use Rattle.enc_base.specs.Tuples.{tuple_at, IsPlaced}
 use Rattle.tf_models.specs.Evaluation as evaluation
-use Rattle.tf_models.specs.Evaluation.{IsBlock, IsPlaced}
-use Rattle.tf_models.proofs.Placing.{EachBelow-same_length, placed_within}
-use Rattle.tf_models.proofs.NumberedTuples.{tuple_at-place}
+use Rattle.tf_models.specs.Evaluation.{IsBlock}
+use Rattle.enc_base.proofs.Placing.{EachBelow-same_length, placed_within}
+use Rattle.enc_base.proofs.NumberedTuples.{tuple_at-place}
 use Rattle.tf_models.proofs.SymbolBlocks.{parameters_below}
-use Rattle.tf_models.proofs.TypeMembers.{constructor_long}
+use Rattle.tf_models.proofs.TypeMembers as type_members
+use Rattle.tf_models.proofs.TypeMembers.{constructor_long, member_below}
 use Rattle.tf_models.proofs.Entries.{constructors_fit, symbol_block, block_count-fits}
 use Rattle.tf_stamp.specs.Merged.{merged_size, stamp, member_in}
-use Rattle.enc_laws.specs.MergedStructure.{members_read, value_at, merged_value, merged_symbol, merged_at}
+use Rattle.enc_laws.specs.MergedStructure.{elements_read, members_read, value_at, merged_value, merged_symbol, merged_at}
 use Rattle.enc_laws.proofs.MergedFormed.{EachBelow-front, EachBelow-back}
 use Rattle.enc_laws.proofs.Selected.{result_formed}
-use Rattle.enc_models.specs.declared.merging.Merging.{Merging}
-use Rattle.enc_models.specs.Merging.{choices_in, signature_in, tables_in, typed_in, merged_in, members_in, elements_in_block, IsMerging, AreNumbers, IsMarked, IsSymbolFor, IsConstructorFor}
-use Rattle.enc_models.proofs.Numbers.{members_below, each_element}
+use Rattle.enc_models.specs.declared.blocks.Block.{Block}
+use Rattle.enc_models.specs.Calls.Blocks.{IsKept}
+use Rattle.enc_models.specs.Calls.Merging.{Parts, signature_in, tables_in, typed_in, merged_in, members_in, IsMerging, AreNumbers, StandsForSymbol, IsSymbolFor, IsConstructorFor}
+use Rattle.enc_models.proofs.BlockEntries.{block_fits, entry_within, entry_is}
+use Rattle.enc_models.proofs.Numbers.{members_below}
 
 -- where all type arguments are written, so many stand before the arguments, and they are members
 
@@ -48,11 +52,11 @@ members_read-all sizes (suc count) parameter places (u ∷ kept) values all =
     (members_read-all sizes count (parameter + 1) places kept values (omega (arith, all)))
 
 -- a marked symbol as code reads it, and the numbers for its type arguments and its arguments
-pub record IsGiven (m : Merging) (at f : ℕ) (symbol : Symbol) (values : List ℕ) : Type 0 where
-  pub marked : IsMarked m at f symbol
+pub record IsGiven (m : Parts) (at f : ℕ) (symbol : Symbol) (values : List ℕ) : Type 0 where
+  pub marked : StandsForSymbol m at f symbol
   pub below : AreNumbers m (symbol.parameters + length symbol.arguments) values
 
-pub symbol_read : (m : Merging) (at f : ℕ) (values : List ℕ) → IsSymbolFor m at f values →
+pub symbol_read : (m : Parts) (at f : ℕ) (values : List ℕ) → IsSymbolFor m at f values →
     (symbols : List Symbol) (symbol : Symbol) → symbols ≡ (signature_in m).symbols →
     symbol ≡ get_or symbols f symbol → IsGiven m at f symbol values
 symbol_read m at f values given symbols symbol same is =
@@ -63,11 +67,11 @@ symbol_read m at f values given symbols symbol same is =
     subst (λ x. IsGiven m at f x values) read
     (record { marked = given.marked; below = given.below })
 
-module _ (m : Merging) (ready : IsMerging m) (at f : ℕ) (symbol : Symbol) (values : List ℕ)
+module _ (m : Parts) (ready : IsMerging m) (at f : ℕ) (symbol : Symbol) (values : List ℕ)
     (given : IsGiven m at f symbol values)
   where
     abbrev sizes : List ℕ
-    sizes = m.model.now.sizes
+    sizes = m.model.sizes
 
     abbrev kept : List ℕ
     kept = take symbol.parameters values
@@ -104,7 +108,7 @@ module _ (m : Merging) (ready : IsMerging m) (at f : ℕ) (symbol : Symbol) (val
     pub kept_numbers : AreNumbers m (length kept) kept
     kept_numbers = subst (λ n. AreNumbers m n kept) (sym kept_long) kept_below
 
-    pub table_within : f < length m.model.now.symbols
+    pub table_within : f < length m.model.symbols
     table_within =
         omega (
           arith,
@@ -113,31 +117,26 @@ module _ (m : Merging) (ready : IsMerging m) (at f : ℕ) (symbol : Symbol) (val
         )
 
     pub parameters_fit : tuple_count (replicate (length kept) (length sizes))
-        ≤ length (get_or m.model.now.symbols f [])
+        ≤ length (get_or m.model.symbols f [])
     parameters_fit =
         subst
-        (λ n. tuple_count (replicate n (length sizes)) ≤ length (get_or m.model.now.symbols f []))
+        (λ n. tuple_count (replicate n (length sizes)) ≤ length (get_or m.model.symbols f []))
         (sym kept_long)
-        (block_count-fits (signature_in m) m.model.now ready.ready f symbol
+        (block_count-fits (signature_in m) m.model ready.ready f symbol
         given.marked.symbol_at)
-
-    pub result_typed : (ty : Ty) → symbol.result ≡ Some ty →
-        IsType (signature_in m) symbol.parameters ty
-    result_typed ty gives =
-        result_formed (signature_in m) f symbol ty ready.ready.typed given.marked.symbol_at gives
 
     module _ (number : ℕ)
         (placed : IsPlaced (replicate (length kept) (length sizes)) (members_in m kept) number)
       where
-        number_within : number < block_count (tables_in m) symbol
+        pub number_within : number < block_count (tables_in m) symbol
         number_within =
             subst (λ n. number < tuple_count (replicate n (length sizes))) kept_long
             (placed_within (replicate (length kept) (length sizes)) (members_in m kept) number
             placed)
 
-        pub given_block : IsBlock (signature_in m) m.model.now symbol number
+        given_block : IsBlock (signature_in m) m.model symbol number
         given_block =
-            symbol_block (signature_in m) m.model.now ready.ready f symbol
+            symbol_block (signature_in m) m.model ready.ready f symbol
             given.marked.symbol_at number number_within
 
         members_are : parameters_at (tables_in m) symbol number ≡ members_in m kept
@@ -154,77 +153,169 @@ module _ (m : Merging) (ready : IsMerging m) (at f : ℕ) (symbol : Symbol) (val
         abbrev members : List ℕ
         members = parameters_at (tables_in m) symbol number
 
-        abbrev elements : List ℕ
-        elements = elements_in_block m symbol number own
+        abbrev types_are : List ℕ
+        types_are = map (evaluation.member_in m.model members) symbol.arguments
 
-        are_arguments : AreArguments (typed_in m) symbol members elements
-        are_arguments = record {
-          for_parameters =
-              parameters_below (signature_in m) m.model.now symbol number given_block;
-          for_arguments =
-              each_element (signature_in m) m.model.now symbol number given_block own own_below;
-        }
+        -- the block that is kept
+        module _ (block : Block) (is : IsKept m.model symbol number block) where
+          as_many : length block.arguments ≡ length symbol.arguments
+          as_many = ap length is.arguments_are ∙ length-map _ _
 
-        module _ (entry : ℕ)
-            (is : entry ≡ symbol_entry (tables_in m) (Some symbol) f members elements)
-          where
-            entry_at : entry ≡ (typed_in m).symbol_at f members elements
-            entry_at =
-                is
-                ∙ ap (λ found. symbol_entry (tables_in m) found f members elements)
-                (sym given.marked.symbol_at)
+          pub arguments_below :
+              EachBelow (replicate (length block.arguments) (length sizes)) block.arguments
+          arguments_below =
+              subst (λ ms. EachBelow (replicate (length ms) (length sizes)) ms)
+              (sym is.arguments_are)
+              (subst (λ n. EachBelow (replicate n (length sizes)) types_are)
+              (sym (length-map _ _))
+              (type_members.members_below (signature_in m) m.model given_block.constructors
+              symbol.parameters members symbol.arguments given_block.typed.arguments
+              (parameters_below (signature_in m) m.model symbol number given_block)))
 
-            -- a function's value is an element
-            pub entry_below : (ty : Ty) → symbol.result ≡ Some ty →
-                entry < slice_index sizes (evaluation.member_in m.model.now members ty)
-            entry_below ty gives =
-                subst
-                (λ n. n < slice_index sizes (evaluation.member_in m.model.now members ty))
-                (sym entry_at)
-                (ready.ready.well_formed.structure.functions f symbol ty members elements
-                given.marked.symbol_at gives are_arguments)
+          pub own_numbers : AreNumbers m (length block.arguments) own
+          own_numbers = subst (λ n. AreNumbers m n own) (sym as_many) own_below
 
-            merged_is : (merged_in m).symbol_at f values
-                ≡ merged_value (typed_in m) members symbol.result entry
-            merged_is =
-                let count = kept_all symbol.parameters in
-                let all = members_read-all sizes symbol.parameters 0 in
-                ap (λ found. merged_at (choices_in m) (signature_in m) (typed_in m) f found values)
-                given.marked.symbol_at
-                ∙ ap (λ n. merged_symbol (choices_in m) (typed_in m) f symbol (take n values)
-                (drop n values)) count
-                ∙ ap (λ ms. merged_value (typed_in m) ms symbol.result
-                (value_at (typed_in m) f symbol ms own)) (all _ kept own kept_long
-                ∙ sym members_are)
-                ∙ ap (merged_value (typed_in m) members symbol.result) (sym entry_at)
+          bounds_are : map (slice_index sizes) block.arguments ≡ bounds_at (tables_in m) symbol number
+          bounds_are =
+              ap (map (slice_index sizes)) is.arguments_are
+              ∙ map-map (slice_index sizes) (evaluation.member_in m.model members) symbol.arguments
 
-            pub predicate_is : symbol.result ≡ None → entry ≡ (merged_in m).symbol_at f values
-            predicate_is gives =
-                sym (merged_is
-                ∙ ap (λ result. merged_value (typed_in m) members result entry) gives)
+          pub arguments_fit : tuple_count (map (slice_index sizes) block.arguments)
+              ≤ length (get_or m.model.symbols f [])
+          arguments_fit =
+              omega (
+                arith,
+                ap tuple_count bounds_are,
+                block_fits (signature_in m) m.model ready.ready f symbol given.marked.symbol_at
+                    number given_block,
+              )
 
-            pub function_is : (ty : Ty) → symbol.result ≡ Some ty →
-                stamp sizes (evaluation.member_in m.model.now members ty) entry
-                ≡ (merged_in m).symbol_at f values
-            function_is ty gives =
-                sym (merged_is
-                ∙ ap (λ result. merged_value (typed_in m) members result entry) gives)
+          abbrev elements : List ℕ
+          elements = elements_read sizes types_are own
+
+          module _ (at_place : ℕ)
+              (stands : IsPlaced (map (slice_index sizes) block.arguments)
+              (elements_read sizes block.arguments own) at_place)
+            where
+              stands_in_block : IsPlaced (bounds_at (tables_in m) symbol number) elements at_place
+              stands_in_block =
+                  subst (λ bounds. IsPlaced bounds elements at_place) bounds_are
+                  (subst
+                  (λ ms. IsPlaced (map (slice_index sizes) block.arguments)
+                  (elements_read sizes ms own) at_place) is.arguments_are stands)
+
+              pub entry_inside : block.start + at_place < length (get_or m.model.symbols f [])
+              entry_inside =
+                  omega (
+                    arith,
+                    is.start_is,
+                    entry_within (signature_in m) m.model ready.ready f symbol
+                        given.marked.symbol_at number given_block elements at_place
+                        stands_in_block,
+                  )
+
+              are_arguments : AreArguments (typed_in m) symbol members elements
+              are_arguments = record {
+                for_parameters =
+                    parameters_below (signature_in m) m.model symbol number given_block;
+                for_arguments = stands_in_block.below;
+              }
+
+              module _ (entry : ℕ)
+                  (read : entry ≡ slice_index (get_or m.model.symbols f []) (block.start + at_place))
+                where
+                  entry_at : entry ≡ (typed_in m).symbol_at f members elements
+                  entry_at =
+                      read
+                      ∙ ap (λ n. slice_index (get_or m.model.symbols f []) (n + at_place)) is.start_is
+                      ∙ entry_is (signature_in m) m.model ready.ready f symbol
+                      given.marked.symbol_at number given_block elements at_place stands_in_block
+                      ∙ ap (λ found. symbol_entry (tables_in m) found f members elements)
+                      (sym given.marked.symbol_at)
+
+                  merged_is : (merged_in m).symbol_at f values
+                      ≡ merged_value (typed_in m) members symbol.result entry
+                  merged_is =
+                      let keeps : m.choices.keeps symbol ≡ replicate symbol.parameters true =
+                      ready.kept symbol in
+                      let count = ap (count_by (λ (k : Bool). k)) keeps ∙ kept_all symbol.parameters in
+                      let all = members_read-all sizes symbol.parameters 0 in
+                      ap (λ found. merged_at m.choices (signature_in m) (typed_in m) f found values)
+                      given.marked.symbol_at
+                      ∙ ap (λ n. merged_symbol m.choices (typed_in m) f symbol (take n values)
+                      (drop n values)) count
+                      ∙ ap (λ ms. merged_value (typed_in m) ms symbol.result
+                      (value_at (typed_in m) f symbol ms own))
+                      (ap (λ ks. members_read sizes ks 0 (argument_parameters symbol) kept own) keeps
+                      ∙ all _ kept own kept_long ∙ sym members_are)
+                      ∙ ap (merged_value (typed_in m) members symbol.result) (sym entry_at)
+
+                  pub predicate_is : block.value ≡ None → entry ≡ (merged_in m).symbol_at f values
+                  predicate_is none =
+                      sym (merged_is
+                      ∙ ap (λ result. merged_value (typed_in m) members result entry)
+                      (no_value symbol.result (sym is.value_is ∙ none)))
+                    where
+                      no_value : (result : Option Ty) →
+                          option_map (evaluation.member_in m.model members) result ≡ None →
+                          result ≡ None
+                      no_value None gives = refl
+                      no_value (Some ty) gives = cc
+
+                  -- a function's value is an element of its member
+                  module _ (member : ℕ) (some : block.value ≡ Some member) where
+                    value_type : (result : Option Ty) →
+                        option_map (evaluation.member_in m.model members) result ≡ Some member →
+                        (ty : Ty) × (result ≡ Some ty)
+                        × (evaluation.member_in m.model members ty ≡ member)
+                    value_type None gives = cc
+                    value_type (Some ty) gives =
+                        let same : evaluation.member_in m.model members ty ≡ member = cc in
+                        (ty, refl, same)
+
+                    found : (ty : Ty) × (symbol.result ≡ Some ty)
+                        × (evaluation.member_in m.model members ty ≡ member)
+                    found = value_type symbol.result (sym is.value_is ∙ some)
+
+                    pub member_within : member < length sizes
+                    member_within =
+                        subst (λ n. n < length sizes) found.2
+                        (member_below (signature_in m) m.model given_block.constructors
+                        symbol.parameters members found.0
+                        (result_formed (signature_in m) f symbol found.0 ready.ready.typed
+                        given.marked.symbol_at found.1)
+                        (parameters_below (signature_in m) m.model symbol number given_block))
+
+                    pub entry_below : entry < slice_index sizes member
+                    entry_below =
+                        subst (λ n. entry < slice_index sizes n) found.2
+                        (subst
+                        (λ n. n < slice_index sizes (evaluation.member_in m.model members found.0))
+                        (sym entry_at)
+                        (ready.ready.well_formed.structure.functions f symbol found.0 members
+                        elements given.marked.symbol_at found.1 are_arguments))
+
+                    pub function_is : stamp sizes member entry ≡ (merged_in m).symbol_at f values
+                    function_is =
+                        sym (merged_is
+                        ∙ ap (λ result. merged_value (typed_in m) members result entry) found.1
+                        ∙ ap (λ n. stamp sizes n entry) found.2)
 
 -- constructors
 
-module _ (m : Merging) (ready : IsMerging m) (c : ℕ) (values : List ℕ)
+module _ (m : Parts) (ready : IsMerging m) (c : ℕ) (values : List ℕ)
     (given : IsConstructorFor m c values)
   where
     values_arity : length values ≡ given.constructor.arity
     values_arity =
         sym (EachBelow-same_length
-        (replicate given.constructor.arity (merged_size m.model.now.sizes)) values given.below)
-        ∙ length-replicate given.constructor.arity (merged_size m.model.now.sizes)
+        (replicate given.constructor.arity (merged_size m.model.sizes)) values given.below)
+        ∙ length-replicate given.constructor.arity (merged_size m.model.sizes)
 
     pub constructor_numbers : AreNumbers m (length values) values
     constructor_numbers = subst (λ n. AreNumbers m n values) (sym values_arity) given.below
 
-    pub constructor_within : c < length m.model.now.constructors
+    pub constructor_within : c < length m.model.constructors
     constructor_within =
         omega (
           arith,
@@ -232,29 +323,29 @@ module _ (m : Merging) (ready : IsMerging m) (c : ℕ) (values : List ℕ)
           ready.ready.well_formed.tables.constructor_count,
         )
 
-    pub constructor_fits : tuple_count (replicate (length values) (length m.model.now.sizes))
-        ≡ length (get_or m.model.now.constructors c [])
+    pub constructor_fits : tuple_count (replicate (length values) (length m.model.sizes))
+        ≡ length (get_or m.model.constructors c [])
     constructor_fits =
-        sym (constructor_long (signature_in m) m.model.now
-        (constructors_fit (signature_in m) m.model.now ready.ready.well_formed) c (length values)
+        sym (constructor_long (signature_in m) m.model
+        (constructors_fit (signature_in m) m.model ready.ready.well_formed) c (length values)
         given.constructor given.at values_arity)
 
     pub constructor_is : (number : ℕ) →
-        IsPlaced (replicate (length values) (length m.model.now.sizes)) (members_in m values)
+        IsPlaced (replicate (length values) (length m.model.sizes)) (members_in m values)
         number →
-        slice_index (get_or m.model.now.constructors c []) number
+        slice_index (get_or m.model.constructors c []) number
         ≡ constructor_entry (tables_in m) c (members_in m values)
     constructor_is number placed =
-        ap (slice_index (get_or m.model.now.constructors c []))
+        ap (slice_index (get_or m.model.constructors c []))
         (placed.place_is
-        ∙ ap (λ n. place (replicate n (length m.model.now.sizes)) (members_in m values))
+        ∙ ap (λ n. place (replicate n (length m.model.sizes)) (members_in m values))
         (sym (length-map _ _)))
 
     -- the table as code reads it
     pub constructor_table : (all : List (List ℕ)) (table found : List ℕ) →
-        all ≡ m.model.now.constructors → found ≡ get_or all c found → table ≡ found →
-        table ≡ get_or m.model.now.constructors c []
+        all ≡ m.model.constructors → found ≡ get_or all c found → table ≡ found →
+        table ≡ get_or m.model.constructors c []
     constructor_table all table found same is read =
         read ∙ is
         ∙ ap (λ xs. get_or xs c found) same
-        ∙ get_or_default m.model.now.constructors c found [] constructor_within
+        ∙ get_or_default m.model.constructors c found [] constructor_within

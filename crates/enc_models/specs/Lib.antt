@@ -1,5 +1,4 @@
 pub mod Lowered
-pub mod Starts
-pub mod Merging
 pub mod LiftedTables
-pub mod Lifting
+pub mod KeepsModels
+pub mod Calls

@@ -1,31 +1,33 @@
 -- The typed model, as tables, that an untyped model of a translation gives of the normal problem.
-use Rattle.std.specs.Prelude.{ℕ, ◌<◌, ◌≡◌, true}
+use Rattle.std.specs.Prelude.{ℕ, ◌<◌, ◌≡◌}
 use Rattle.tf_core.specs.declared.normal.Normal.{Normal}
 use Rattle.tf_core.specs.Structures.{Typed}
 use Rattle.tf_core.specs.TypedTables.{TypedTables}
-use Rattle.tf_models.specs.Evaluation.{in_64_bits}
-use Rattle.tf_stamp.specs.Most.{most_entries}
+use Rattle.enc_base.specs.Counts.{in_64_bits, most_entries}
 use Rattle.fof_models.specs.declared.structure.Structure.{Structure}
 use Rattle.fof_models.specs.Structures.{Untyped, reading}
 use Rattle.structure_tables.specs.TypedTabled.{tabled}
 use Rattle.structure_tables.specs.EntryCounts.{typed_count}
 use Rattle.enc_marks.specs.declared.refusal.Refusal.{Refusal}
-use Rattle.enc_marks.specs.declared.refusal.Refusal.TheVariants.{NotMonomorphic, NotMonotone, TableTooLarge, Memory}
+use Rattle.enc_marks.specs.declared.refusal.Refusal.TheVariants.{NotMonomorphic, NotMonotone}
+use Rattle.enc_marks.specs.declared.refusal.Refusal.TheVariants.{TableTooLarge, Memory}
 use Rattle.enc_marks.specs.Choices.{Choices}
 use Rattle.enc_marks.specs.Encoded.{all_numbers, is_present, translation}
-use Rattle.enc_laws.specs.Lifted.{lifted, lift_by_type}
-use Rattle.enc_laws.specs.Present.{over_all}
+use Rattle.enc_laws.specs.Lifted.{lifted, lift_by}
+use Rattle.enc_laws.specs.Present.{over_all, is_tag}
 
--- the structure over all marked symbols, where those that don't occur have zeros
+-- The structure over all marked symbols. Of those that don't occur a tag changes nothing, and any
+-- other has zeros.
 abbrev pub marked_structure : Choices → Normal → Structure → Untyped
-marked_structure c normal s = over_all (is_present (translation c normal)) (reading s)
+marked_structure c normal s =
+    over_all (is_present (translation c normal)) (is_tag c normal) (reading s)
 
--- the typed structure whose members are the numbers of the domain, with the numbers that have the
--- mark of a member as its elements
+-- the typed structure that it gives
 abbrev pub lifted_structure : Choices → Normal → Structure → Typed
 lifted_structure c normal s =
-    lifted c (all_numbers normal) normal.signature (marked_structure c normal s)
-    (lift_by_type c (all_numbers normal) (marked_structure c normal s) true)
+    lifted c (all_numbers normal) normal.signature (is_present (translation c normal))
+    (marked_structure c normal s)
+    (lift_by c.marking c normal (all_numbers normal) (marked_structure c normal s))
 
 -- its tables
 abbrev pub lifted_tables : Choices → Normal → Structure → TypedTables

@@ -1,26 +1,34 @@
 -- The untyped model, as tables, that a typed model of a normal problem gives of its translation.
 use Rattle.std.specs.Prelude.{ℕ, ◌<◌, ◌≤◌, ◌≡◌, length}
 use Rattle.tf_core.specs.declared.normal.Normal.{Normal}
+use Rattle.tf_core.specs.Structures.{Typed}
 use Rattle.tf_core.specs.TypedTables.{TypedTables, reading}
-use Rattle.tf_models.specs.Evaluation.{in_64_bits}
+use Rattle.enc_base.specs.Counts.{in_64_bits, most_entries}
 use Rattle.fof_models.specs.declared.structure.Structure.{Structure}
 use Rattle.fof_models.specs.Structures.{Untyped}
 use Rattle.fof_models.specs.Tabled.{tabled}
-use Rattle.tf_stamp.specs.Merged.{merged_size}
-use Rattle.tf_stamp.specs.Most.{most_entries}
 use Rattle.structure_tables.specs.EntryCounts.{untyped_count}
 use Rattle.enc_marks.specs.declared.refusal.Refusal.{Refusal}
-use Rattle.enc_marks.specs.declared.refusal.Refusal.TheVariants.{NotMonomorphic, NotMonotone, TableTooLarge, Memory}
+use Rattle.enc_marks.specs.declared.refusal.Refusal.TheVariants.{NotMonomorphic, NotMonotone}
+use Rattle.enc_marks.specs.declared.refusal.Refusal.TheVariants.{TableTooLarge, Memory}
+use Rattle.enc_marks.specs.declared.choices.Domain.{Domain}
+use Rattle.enc_marks.specs.declared.choices.Domain.TheVariants.{Merged, Collapsed}
 use Rattle.enc_marks.specs.Choices.{Choices}
 use Rattle.enc_marks.specs.Encoded.{all_marks, is_present, translation, encoded}
 use Rattle.enc_laws.specs.MergedStructure.{merged}
+use Rattle.enc_laws.specs.CollapsedStructure.{collapsed}
 use Rattle.enc_laws.specs.Present.{over_present}
 
--- the merged structure of the typed one, over the marked symbols that occur in the translation
+-- the untyped structure of the typed one, over all marked symbols
+abbrev pub structure_by : Domain → Choices → Normal → Typed → Untyped
+structure_by Merged c normal s = merged c normal.signature s
+structure_by Collapsed c normal s = collapsed c normal s
+
+-- the same over the marked symbols that occur in the translation
 abbrev pub lowered_structure : Choices → Normal → TypedTables → Untyped
 lowered_structure c normal t =
     over_present (is_present (translation c normal)) (length (all_marks c normal))
-    (merged c normal.signature (reading normal.signature t))
+    (structure_by c.domain c normal (reading normal.signature t))
 
 -- its tables
 abbrev pub lowered : Choices → Normal → TypedTables → Structure
@@ -29,7 +37,7 @@ lowered c normal t = tabled (encoded c normal).problem.signature (lowered_struct
 -- how many numbers they hold: the size of the domain, and an entry of each symbol for each tuple
 abbrev pub lowered_entries : Choices → Normal → TypedTables → ℕ
 lowered_entries c normal t =
-    untyped_count (merged_size t.sizes) (encoded c normal).problem.signature
+    untyped_count (lowered_structure c normal t).size (encoded c normal).problem.signature
 
 -- The tables would hold too many numbers, and the refusal carries how many. Or they wouldn't, and
 -- there was no memory. There is no other cause.

@@ -2,13 +2,15 @@
 //! guard or tag has the type as an argument.
 #![tactic(auto)]
 
-mod lift;
+mod blocks;
+mod laws;
 mod lifting;
-mod lower;
 mod marked;
 mod merging;
 mod rows;
-mod starts;
+mod to_typed;
+mod to_untyped;
 
-pub use lift::lift_guarded;
-pub use lower::lower_uniform;
+pub use laws::{merged_schemes_keep_models, schemes_by_type_lift_models};
+pub use to_typed::lift;
+pub use to_untyped::lower;

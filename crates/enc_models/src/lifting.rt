@@ -2,30 +2,32 @@ ghost use Rattle.std.specs.Prelude.{◌≡◌, ◌≤◌, map, length, replicate
 ghost use Rattle.enc_base.specs.Tables.{EachBelow, tuple_count};
 ghost use Rattle.tf_core.specs.Typing.{IsType, AreTypes, IsSymbol};
 ghost use Rattle.tf_core.specs.Structures.{member_of, AreArguments};
-ghost use Rattle.tf_models.specs.Evaluation.{IsPlaced};
-ghost use Rattle.enc_models.specs.Lifting.{typed_in, bounds_in, numbers_in, entry_in, IsLifting};
+ghost use Rattle.enc_base.specs.Tuples.{IsPlaced};
+ghost use Rattle.enc_models.specs.Calls.Lifting.{parts_of, typed_in, bounds_in, numbers_in, entry_in, IsLifting};
 
 use crate::marked::Marked;
 use enc_base::List;
+use enc_marks::Choices;
 use structure_tables::TypedSource;
 use tf_core::{Symbol, Ty};
 
 /// The lifted structure of an untyped one. Its values are computed and take no memory.
 #[derive(Drop)]
-pub(crate) struct Lifting<'a> {
-    pub marked: &'a Marked<'a>,
+pub(crate) struct Lifting<'a, C> {
+    pub marked: &'a Marked<'a, C>,
     /// The numbers that the elements of each member stand for, in rising order.
     pub picked: &'a [List<u32>],
     /// The rank of each number of the domain in each member.
     pub ranks: &'a [List<u32>],
 }
 
-impl TypedSource for Lifting<'_> {
+impl<C: Choices> TypedSource for Lifting<'_, C> {
     ghost signature = { λ it. it.marked.now.normal.now.signature };
 
-    ghost structure = { λ it. typed_in it.marked.now };
+    ghost structure = { λ it. typed_in (parts_of C.choices it.marked.now) };
 
-    ghost is_ready = { IsLifting };
+    ghost is_ready = { λ it.
+        IsLifting (parts_of C.choices it.marked.now) it.picked.now it.ranks.now };
 
     fn constructor_value(&self, constructor: u32, members: &[u32]) -> u32 {
         let symbols = self.marked.normal.signature.symbols.as_slice().len();
@@ -38,6 +40,10 @@ impl TypedSource for Lifting<'_> {
 
     fn symbol_value(&self, symbol: u32, members: &[u32], elements: &[u32]) -> u32 {
         let stated = &self.marked.normal.signature.symbols.as_slice()[symbol as usize];
+        let table = self.marked.table(symbol as usize);
+        if table.len() == 0 {
+            return 0;
+        }
         let entry = self.entry(symbol, stated, members, elements);
         match &stated.result {
             Some(ty) => {
@@ -49,12 +55,15 @@ impl TypedSource for Lifting<'_> {
     }
 }
 
-impl Lifting<'_> {
+impl<C: Choices> Lifting<'_, C> {
     // the place of a tuple of members, in a table with an entry for each tuple
     fn place_of_members(&self, members: &[u32], table: &[u32]) -> usize
-        requires members { EachBelow (replicate (length members.now) self.now.marked.now.model.now.size) members.now }
-        requires entries { tuple_count (replicate (length members.now) self.now.marked.now.model.now.size) ≤ length table.now }
-        ensures { IsPlaced (replicate (length members.now) self.now.marked.now.model.now.size) members.now result }
+        requires members { EachBelow (replicate (length members.now)
+            self.now.marked.now.model.now.size) members.now }
+        requires entries { tuple_count
+            (replicate (length members.now) self.now.marked.now.model.now.size) ≤ length table.now }
+        ensures { IsPlaced (replicate (length members.now) self.now.marked.now.model.now.size)
+            members.now result }
     {
         let mut at = 0usize;
         for member in members {
@@ -66,10 +75,14 @@ impl Lifting<'_> {
     // the member that a type is, under members for its variables
     #[cycle(member_of)]
     fn member_of(&self, ty: &Ty, members: &[u32]) -> u32
-        requires ready { IsLifting self.now }
-        requires members { EachBelow (replicate (length members.now) self.now.marked.now.model.now.size) members.now }
-        requires typed { IsType self.now.marked.now.normal.now.signature (length members.now) ty.now }
-        ensures { result ≡ member_of (typed_in self.now.marked.now) members.now ty.now }
+        requires ready { IsLifting (parts_of C.choices self.now.marked.now) self.now.picked.now
+            self.now.ranks.now }
+        requires members { EachBelow (replicate (length members.now)
+            self.now.marked.now.model.now.size) members.now }
+        requires typed { IsType self.now.marked.now.normal.now.signature (length members.now)
+            ty.now }
+        ensures { result ≡ member_of (typed_in (parts_of C.choices self.now.marked.now)) members.now
+            ty.now }
     {
         match ty {
             Ty::Var(i) => members[*i as usize],
@@ -88,11 +101,17 @@ impl Lifting<'_> {
     // the place of the tuple of the members that types are
     #[cycle(member_of)]
     fn place_of_types(&self, types: &[Ty], members: &[u32], table: &[u32]) -> usize
-        requires ready { IsLifting self.now }
-        requires members { EachBelow (replicate (length members.now) self.now.marked.now.model.now.size) members.now }
-        requires typed { AreTypes self.now.marked.now.normal.now.signature (length members.now) types.now }
-        requires entries { tuple_count (replicate (length types.now) self.now.marked.now.model.now.size) ≤ length table.now }
-        ensures { IsPlaced (replicate (length types.now) self.now.marked.now.model.now.size) (map (member_of (typed_in self.now.marked.now) members.now) types.now) result }
+        requires ready { IsLifting (parts_of C.choices self.now.marked.now) self.now.picked.now
+            self.now.ranks.now }
+        requires members { EachBelow (replicate (length members.now)
+            self.now.marked.now.model.now.size) members.now }
+        requires typed { AreTypes self.now.marked.now.normal.now.signature (length members.now)
+            types.now }
+        requires entries { tuple_count
+            (replicate (length types.now) self.now.marked.now.model.now.size) ≤ length table.now }
+        ensures { IsPlaced (replicate (length types.now) self.now.marked.now.model.now.size)
+            (map (member_of (typed_in (parts_of C.choices self.now.marked.now)) members.now)
+            types.now) result }
     {
         let mut at = 0usize;
         for ty in types {
@@ -104,10 +123,14 @@ impl Lifting<'_> {
 
     // what the table of a symbol gives for members and the numbers that elements stand for
     fn entry(&self, f: u32, symbol: &Symbol, members: &[u32], elements: &[u32]) -> u32
-        requires ready { IsLifting self.now }
-        requires at { slice_get self.now.marked.now.normal.now.signature.symbols f ≡ Some symbol.now }
-        requires arguments { AreArguments (typed_in self.now.marked.now) symbol.now members.now elements.now }
-        ensures { result ≡ entry_in self.now.marked.now f symbol.now members.now elements.now }
+        requires ready { IsLifting (parts_of C.choices self.now.marked.now) self.now.picked.now
+            self.now.ranks.now }
+        requires at { slice_get self.now.marked.now.normal.now.signature.symbols f
+            ≡ Some symbol.now }
+        requires arguments { AreArguments (typed_in (parts_of C.choices self.now.marked.now))
+            symbol.now members.now elements.now }
+        ensures { result ≡ entry_in (parts_of C.choices self.now.marked.now) f symbol.now
+            members.now elements.now }
     {
         let table = self.marked.table(f as usize);
         if table.len() == 0 {
@@ -124,11 +147,16 @@ impl Lifting<'_> {
         elements: &[u32],
         table: &[u32],
     ) -> usize
-        requires ready { IsLifting self.now }
+        requires ready { IsLifting (parts_of C.choices self.now.marked.now) self.now.picked.now
+            self.now.ranks.now }
         requires typed { IsSymbol self.now.marked.now.normal.now.signature symbol.now }
-        requires arguments { AreArguments (typed_in self.now.marked.now) symbol.now members.now elements.now }
-        requires entries { tuple_count (bounds_in self.now.marked.now symbol.now) ≤ length table.now }
-        ensures { IsPlaced (bounds_in self.now.marked.now symbol.now) (numbers_in self.now.marked.now symbol.now members.now elements.now) result }
+        requires arguments { AreArguments (typed_in (parts_of C.choices self.now.marked.now))
+            symbol.now members.now elements.now }
+        requires entries { tuple_count
+            (bounds_in (parts_of C.choices self.now.marked.now) symbol.now) ≤ length table.now }
+        ensures { IsPlaced (bounds_in (parts_of C.choices self.now.marked.now) symbol.now)
+            (numbers_in (parts_of C.choices self.now.marked.now) symbol.now members.now
+            elements.now) result }
     {
         let size = self.marked.model.size as usize;
         let mut at = 0usize;

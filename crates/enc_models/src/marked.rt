@@ -1,33 +1,38 @@
-ghost use Rattle.std.specs.Prelude.{◌≡◌, ◌+◌, ◌<◌, ◌^◌, length, IfOk};
+ghost use Rattle.std.specs.Prelude.{◌≡◌, ◌+◌, ◌<◌, ◌^◌, cond, length, not, IfOk};
 ghost use Rattle.enc_marks.specs.Encoded as encoding;
-ghost use Rattle.enc_marks.specs.Schemes.{guards};
-ghost use Rattle.enc_models.specs.Lifting.{occurs_in, mark_count, mark_number, table_in, picks_in, ArePlaces, IsMarked};
+ghost use Rattle.enc_marks.specs.declared.choices.Marking.TheVariants.{ByType};
+ghost use Rattle.enc_marks.specs.Encoded.{is_guard};
+ghost use Rattle.enc_models.specs.Calls.Lifting.{parts_of, occurs_in, mark_count, mark_number, mark_in, table_in, picks_in, ArePlaces, IsMarked};
 
 use enc_base::{List, NoMemory};
-use enc_marks::Mark;
+use enc_marks::{Binding, Choices, Elements, Mark};
 use fof_models::Structure;
 use std::alloc::Global;
 use tf_core::Normal;
 
 /// An untyped structure, whose tables are found by what their symbols stand for: all symbols,
-/// then all constructors, then the guard.
+/// then all constructors, then the guard or tag.
 #[derive(Drop)]
-pub(crate) struct Marked<'a> {
+pub(crate) struct Marked<'a, C> {
+    pub choices: &'a C,
     pub normal: &'a Normal,
     pub model: &'a Structure,
     /// The number of the table of each of them, if it has one.
     pub places: &'a [Option<u32>],
 }
 
-/// Where the tables stand of symbols, of constructors and of the guard.
-pub(crate) fn places_of_marks(
+/// Where the tables stand of symbols, of constructors, and of the guard or tag.
+pub(crate) fn places_of_marks<C: Choices>(
     alloc: Global,
+    choices: &C,
     normal: &Normal,
     marks: &[Mark],
 ) -> Result<List<Option<u32>>, NoMemory>
+    requires by_type { (C.choices choices.now).marking ≡ ByType }
     requires few { mark_count normal.now < 2 ^ 32 }
-    requires marks { marks.now ≡ (encoding.encoded guards normal.now).marks }
-    ensures { IfOk result (λ places. ArePlaces (occurs_in normal.now) (mark_count normal.now) places) }
+    requires marks { marks.now ≡ (encoding.encoded (C.choices choices.now) normal.now).marks }
+    ensures { IfOk result (λ places. ArePlaces (occurs_in (C.choices choices.now) normal.now)
+        (mark_count normal.now) places) }
 {
     let symbols = normal.signature.symbols.as_slice().len();
     let constructors = normal.signature.constructors.as_slice().len();
@@ -56,12 +61,12 @@ fn number_of(mark: &Mark, symbols: usize, constructors: usize) -> usize
     }
 }
 
-impl Marked<'_> {
+impl<C: Choices> Marked<'_, C> {
     /// The table of one of them, or nothing where it doesn't occur.
     pub fn table(&self, number: usize) -> &[u32]
-        requires ready { IsMarked self.now }
+        requires ready { IsMarked (parts_of C.choices self.now) }
         requires number { number < mark_count self.now.normal.now }
-        ensures { result.now ≡ table_in self.now number }
+        ensures { result.now ≡ table_in (parts_of C.choices self.now) number }
     {
         match self.places[number] {
             Some(at) => self.model.tables.as_slice()[at as usize].as_slice(),
@@ -69,17 +74,46 @@ impl Marked<'_> {
         }
     }
 
-    /// Whether the guard holds of a number in a member.
+    /// Whether a number is an element of a member.
     pub fn picks(&self, member: u32, number: u32) -> bool
-        requires ready { IsMarked self.now }
+        requires ready { IsMarked (parts_of C.choices self.now) }
         requires member { member < self.now.model.now.size }
         requires number { number < self.now.model.now.size }
-        ensures { result ≡ picks_in self.now member number }
+        ensures { result ≡ picks_in (parts_of C.choices self.now) member number }
     {
-        let symbols = self.normal.signature.symbols.as_slice().len();
-        let table = self.table(symbols + self.normal.signature.constructors.as_slice().len());
-        let size = self.model.size;
-        let at = member as usize * size as usize + number as usize;
-        table.len() != 0 && table[at] == 1
+        let mark = self.mark(member, number);
+        match self.choices.elements() {
+            Elements::Guarded => mark == 1,
+            Elements::Image => unreachable!(),
+            Elements::Fixed => mark == number,
+            Elements::All => true,
+        }
+    }
+
+    // what the guard or tag gives for a member and a number
+    fn mark(&self, member: u32, number: u32) -> u32
+        requires ready { IsMarked (parts_of C.choices self.now) }
+        requires member { member < self.now.model.now.size }
+        requires number { number < self.now.model.now.size }
+        ensures { result ≡ mark_in (parts_of C.choices self.now) member number }
+    {
+        let symbols = self.normal.signature.symbols.as_slice();
+        let constructors = self.normal.signature.constructors.as_slice();
+        let table = self.table(symbols.len() + constructors.len());
+        if table.len() == 0 {
+            return self.absent_mark(number);
+        }
+        let at = member as usize * self.model.size as usize + number as usize;
+        table[at]
+    }
+
+    // what it gives for a number where it doesn't occur: a tag changes nothing
+    fn absent_mark(&self, number: u32) -> u32
+        ensures { result ≡ cond (not (is_guard (C.choices self.now.choices.now).binding)) number 0 }
+    {
+        match self.choices.binding() {
+            Binding::ByGuard => 0,
+            Binding::ByTag => number,
+        }
     }
 }

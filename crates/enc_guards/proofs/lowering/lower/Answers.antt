@@ -7,7 +7,7 @@ use Rattle.enc_marks.specs.declared.scheme.Scheme.{Scheme}
 use Rattle.enc_marks.specs.Encoded.{encoded}
 use Rattle.enc_marks.specs.Schemes.{guards, choices_of}
 use Rattle.enc_models.specs.Lowered.{lowered, IsRefused}
-use Rattle.enc_guards.proofs.Models.{lowered_model}
+use Rattle.enc_guards.proofs.Models.{lowered_models_are_models}
 use Rattle.enc_guards.proofs.lowering.lower.Goals as goal
 
 pub returns-clause-model : goal.returns-clause-model
@@ -16,28 +16,28 @@ returns-clause-model c =
     c.requires.encoded
     ∙ ap (λ (which : Scheme). encoded (choices_of which c.args.normal.now) c.args.normal.now)
     c.requires.scheme in
-    IfOk-weaker c.lower_uniform.result
+    IfOk-weaker c.lower.result
     (λ s. s ≡ lowered guards c.args.normal.now (tables c.args.model.now))
     (AreModel c.args.encoded.now.problem)
     (λ s is.
     subst (AreModel c.args.encoded.now.problem) (sym is)
     (subst (λ (e : Encoded). AreModel e.problem
     (lowered guards c.args.normal.now (tables c.args.model.now))) (sym problem_is)
-    (lowered_model c.args.normal.now c.requires.sound (tables c.args.model.now)
+    (lowered_models_are_models c.args.normal.now (tables c.args.model.now) c.requires.sound
     c.requires.model)))
-    c.lower_uniform.ensures.exact
+    c.lower.ensures.exact
 
 pub returns-clause-exact : goal.returns-clause-exact
 returns-clause-exact c =
     subst
-    (λ (which : Scheme). IfOk c.lower_uniform.result
+    (λ (which : Scheme). IfOk c.lower.result
     (λ s. s ≡ lowered (choices_of which c.args.normal.now) c.args.normal.now
     (tables c.args.model.now)))
-    (sym c.requires.scheme) c.lower_uniform.ensures.exact
+    (sym c.requires.scheme) c.lower.ensures.exact
 
 pub returns-clause-refused : goal.returns-clause-refused
 returns-clause-refused c =
     subst
-    (λ (which : Scheme). IfErr c.lower_uniform.result
+    (λ (which : Scheme). IfErr c.lower.result
     (IsRefused (choices_of which c.args.normal.now) c.args.normal.now (tables c.args.model.now)))
-    (sym c.requires.scheme) c.lower_uniform.ensures.refused
+    (sym c.requires.scheme) c.lower.ensures.refused

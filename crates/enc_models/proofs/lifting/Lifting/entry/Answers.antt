@@ -1,49 +1,50 @@
 use Rattle.std.proofs.Common.{arith}
 use Rattle.tf_models.proofs.Values.{symbol_typed}
 use Rattle.enc_models.proofs.LiftedValues.{symbol_fills, symbol_inside, symbol_is}
+use Rattle.enc_models.specs.Calls.Lifting.{parts_of}
 use Rattle.enc_models.proofs.lifting.Lifting.entry.Goals as goal
 
 pub place_of_arguments-requires-clause-entries : goal.place_of_arguments-requires-clause-entries
-place_of_arguments-requires-clause-entries c =
-    let m = c.args.self.now.marked.now in
-    let typed = symbol_typed m.normal.now.signature m.normal.now.signature.symbols c.args.f
-    c.args.symbol.now c.requires.at c.requires.ready.marked.typed.signature in
+place_of_arguments-requires-clause-entries g c =
+    let m = (parts_of g.C.Choices.choices c.args.self.now.marked.now) in
+    let typed = symbol_typed m.normal.signature m.normal.signature.symbols c.args.f
+    c.args.symbol.now c.requires.at c.requires.ready.marked.signature in
     omega (
       arith,
-      symbol_fills m c.requires.ready.marked c.args.symbol.now typed c.args.members.now
+      symbol_fills m c.requires.ready.marked c.requires.ready.fits c.args.symbol.now typed c.args.members.now
           c.args.elements.now c.requires.arguments c.args.f c.requires.at
           c.table-table.result.now c.table-table.ensures c.if-table-eq0.false,
     )
 
 pub bounds-table-place_of_arguments : goal.bounds-table-place_of_arguments
-bounds-table-place_of_arguments c =
-    let m = c.args.self.now.marked.now in
-    let typed = symbol_typed m.normal.now.signature m.normal.now.signature.symbols c.args.f
-    c.args.symbol.now c.requires.at c.requires.ready.marked.typed.signature in
-    symbol_inside m c.requires.ready.marked c.args.symbol.now typed c.args.members.now
+bounds-table-place_of_arguments g c =
+    let m = (parts_of g.C.Choices.choices c.args.self.now.marked.now) in
+    let typed = symbol_typed m.normal.signature m.normal.signature.symbols c.args.f
+    c.args.symbol.now c.requires.at c.requires.ready.marked.signature in
+    symbol_inside m c.requires.ready.marked c.requires.ready.fits c.args.symbol.now typed c.args.members.now
     c.args.elements.now c.requires.arguments c.args.f c.requires.at c.table-table.result.now
     c.table-table.ensures c.place_of_arguments.result c.if-table-eq0.false
     c.place_of_arguments.ensures
 
 pub offset_bounds-table-place_of_arguments : goal.offset_bounds-table-place_of_arguments
-offset_bounds-table-place_of_arguments c =
-    let m = c.args.self.now.marked.now in
-    let typed = symbol_typed m.normal.now.signature m.normal.now.signature.symbols c.args.f
-    c.args.symbol.now c.requires.at c.requires.ready.marked.typed.signature in
+offset_bounds-table-place_of_arguments g c =
+    let m = (parts_of g.C.Choices.choices c.args.self.now.marked.now) in
+    let typed = symbol_typed m.normal.signature m.normal.signature.symbols c.args.f
+    c.args.symbol.now c.requires.at c.requires.ready.marked.signature in
     omega (
       arith,
       c.table-table.type_inv,
-      symbol_inside m c.requires.ready.marked c.args.symbol.now typed c.args.members.now
+      symbol_inside m c.requires.ready.marked c.requires.ready.fits c.args.symbol.now typed c.args.members.now
           c.args.elements.now c.requires.arguments c.args.f c.requires.at
           c.table-table.result.now c.table-table.ensures c.place_of_arguments.result
           c.if-table-eq0.false c.place_of_arguments.ensures,
     )
 
 pub returns : goal.returns
-returns c =
-    let m = c.args.self.now.marked.now in
-    let typed = symbol_typed m.normal.now.signature m.normal.now.signature.symbols c.args.f
-    c.args.symbol.now c.requires.at c.requires.ready.marked.typed.signature in
-    symbol_is m c.requires.ready.marked c.args.symbol.now typed c.args.members.now
+returns g c =
+    let m = (parts_of g.C.Choices.choices c.args.self.now.marked.now) in
+    let typed = symbol_typed m.normal.signature m.normal.signature.symbols c.args.f
+    c.args.symbol.now c.requires.at c.requires.ready.marked.signature in
+    symbol_is m c.requires.ready.marked c.requires.ready.fits c.args.symbol.now typed c.args.members.now
     c.args.elements.now c.requires.arguments c.args.f c.requires.at c.table-table.result.now
     c.table-table.ensures c.place_of_arguments.result c.place_of_arguments.ensures

@@ -1,89 +1,88 @@
-use Rattle.std.proofs.Common.{arith, ◌∙◌, ◌<◌, sym, ap, subst, length, get_or, Some, None}
+use Rattle.std.proofs.Common.{arith, ◌∙◌, ◌<◌, sym, ap, subst, length, get_or, Some}
 use Rattle.tf_core.specs.Typing.{IsType}
 use Rattle.tf_core.specs.Structures.{member_of, AreArguments}
 use Rattle.tf_models.proofs.Values.{symbol_typed}
 use Rattle.enc_marks.specs.Occurrence.{count_below}
 use Rattle.enc_laws.proofs.Selected.{result_formed}
-use Rattle.enc_models.specs.Lifting.{typed_in, picks_in, numbers_in}
+use Rattle.enc_models.specs.Calls.Lifting.{parts_of, typed_in, picks_in}
 use Rattle.enc_models.proofs.PickedNumbers.{ranks_row}
-use Rattle.enc_models.proofs.LiftedValues.{stated_is, as_many_members, each_member, member_small, closed, value_is}
+use Rattle.enc_models.proofs.LiftedValues.{stated_is, as_many_members, each_member, member_small, entry_small, absent_is, truth_is, rank_is}
 use Rattle.enc_models.proofs.lifting.LiftingTypedSource.symbol_value.Goals as goal
 
 pub member_of-member-requires-clause-members : goal.member_of-member-requires-clause-members
-member_of-member-requires-clause-members c =
-    let m = c.args.self.now.marked.now in
-    let g = m.normal.now.signature in
+member_of-member-requires-clause-members g c =
+    let m = (parts_of g.C.Choices.choices c.args.self.now.marked.now) in
+    let sig = m.normal.signature in
     let stated = c.index-as_slice-symbol.result in
-    let same = stated_is g.symbols c.as_slice.result.now c.args.symbol c.requires.within.symbol stated
+    let same = stated_is sig.symbols c.as_slice.result.now c.args.symbol c.requires.within.symbol stated
     c.requires.within.at c.as_slice.ensures c.index-as_slice-symbol.is in
     let found = c.requires.within.at ∙ ap Some same in
     let are = subst (λ one. AreArguments (typed_in m) one c.args.members.now c.args.elements.now) same
     c.requires.within.arguments in
-    let typed = symbol_typed g g.symbols c.args.symbol stated found
-    c.requires.ready.marked.typed.signature in
-    each_member m c.requires.ready.marked stated typed c.args.members.now c.args.elements.now are
+    let typed = symbol_typed sig sig.symbols c.args.symbol stated found
+    c.requires.ready.marked.signature in
+    each_member m c.requires.ready.marked c.requires.ready.fits stated typed c.args.members.now c.args.elements.now are
 
 pub member_of-member-requires-clause-typed : goal.member_of-member-requires-clause-typed
-member_of-member-requires-clause-typed c =
-    let m = c.args.self.now.marked.now in
-    let g = m.normal.now.signature in
+member_of-member-requires-clause-typed g c =
+    let m = (parts_of g.C.Choices.choices c.args.self.now.marked.now) in
+    let sig = m.normal.signature in
     let stated = c.index-as_slice-symbol.result in
-    let same = stated_is g.symbols c.as_slice.result.now c.args.symbol c.requires.within.symbol stated
+    let same = stated_is sig.symbols c.as_slice.result.now c.args.symbol c.requires.within.symbol stated
     c.requires.within.at c.as_slice.ensures c.index-as_slice-symbol.is in
     let found = c.requires.within.at ∙ ap Some same in
     let are = subst (λ one. AreArguments (typed_in m) one c.args.members.now c.args.elements.now) same
     c.requires.within.arguments in
-    let typed = symbol_typed g g.symbols c.args.symbol stated found
-    c.requires.ready.marked.typed.signature in
-    let formed : IsType g (length c.args.members.now) c.in-Some.ty =
-    subst (λ n. IsType g n c.in-Some.ty) (as_many_members m c.requires.ready.marked stated typed c.args.members.now c.args.elements.now are)
-    (result_formed g c.args.symbol stated c.in-Some.ty c.requires.ready.marked.typed.signature found
+    let typed = symbol_typed sig sig.symbols c.args.symbol stated found
+    c.requires.ready.marked.signature in
+    let formed : IsType sig (length c.args.members.now) c.in-Some.ty =
+    subst (λ n. IsType sig n c.in-Some.ty) (as_many_members m c.requires.ready.marked c.requires.ready.fits stated typed c.args.members.now c.args.elements.now are)
+    (result_formed sig c.args.symbol stated c.in-Some.ty c.requires.ready.marked.signature found
     c.in-Some.is) in
     formed
 
 pub bounds-self-member : goal.bounds-self-member
-bounds-self-member c =
-    let m = c.args.self.now.marked.now in
-    let g = m.normal.now.signature in
+bounds-self-member g c =
+    let m = (parts_of g.C.Choices.choices c.args.self.now.marked.now) in
+    let sig = m.normal.signature in
     let stated = c.index-as_slice-symbol.result in
-    let same = stated_is g.symbols c.as_slice.result.now c.args.symbol c.requires.within.symbol stated
+    let same = stated_is sig.symbols c.as_slice.result.now c.args.symbol c.requires.within.symbol stated
     c.requires.within.at c.as_slice.ensures c.index-as_slice-symbol.is in
     let found = c.requires.within.at ∙ ap Some same in
     let are = subst (λ one. AreArguments (typed_in m) one c.args.members.now c.args.elements.now) same
     c.requires.within.arguments in
-    let typed = symbol_typed g g.symbols c.args.symbol stated found
-    c.requires.ready.marked.typed.signature in
-    let formed : IsType g (length c.args.members.now) c.in-Some.ty =
-    subst (λ n. IsType g n c.in-Some.ty) (as_many_members m c.requires.ready.marked stated typed c.args.members.now c.args.elements.now are)
-    (result_formed g c.args.symbol stated c.in-Some.ty c.requires.ready.marked.typed.signature found
+    let typed = symbol_typed sig sig.symbols c.args.symbol stated found
+    c.requires.ready.marked.signature in
+    let formed : IsType sig (length c.args.members.now) c.in-Some.ty =
+    subst (λ n. IsType sig n c.in-Some.ty) (as_many_members m c.requires.ready.marked c.requires.ready.fits stated typed c.args.members.now c.args.elements.now are)
+    (result_formed sig c.args.symbol stated c.in-Some.ty c.requires.ready.marked.signature found
     c.in-Some.is) in
-    let small = member_small m c.requires.ready.marked (length c.args.members.now) c.args.members.now
-    c.in-Some.ty formed (each_member m c.requires.ready.marked stated typed c.args.members.now c.args.elements.now are) in
+    let small = member_small m c.requires.ready.marked c.requires.ready.fits (length c.args.members.now) c.args.members.now
+    c.in-Some.ty formed (each_member m c.requires.ready.marked c.requires.ready.fits stated typed c.args.members.now c.args.elements.now are) in
     omega (arith, small, c.member_of-member.ensures, c.requires.ready.rows.ranks_count)
 
 pub bounds-as_slice-entry : goal.bounds-as_slice-entry
-bounds-as_slice-entry c =
-    let m = c.args.self.now.marked.now in
-    let g = m.normal.now.signature in
+bounds-as_slice-entry g c =
+    let m = (parts_of g.C.Choices.choices c.args.self.now.marked.now) in
+    let sig = m.normal.signature in
     let stated = c.index-as_slice-symbol.result in
-    let same = stated_is g.symbols c.as_slice.result.now c.args.symbol c.requires.within.symbol stated
+    let same = stated_is sig.symbols c.as_slice.result.now c.args.symbol c.requires.within.symbol stated
     c.requires.within.at c.as_slice.ensures c.index-as_slice-symbol.is in
     let found = c.requires.within.at ∙ ap Some same in
     let are = subst (λ one. AreArguments (typed_in m) one c.args.members.now c.args.elements.now) same
     c.requires.within.arguments in
-    let typed = symbol_typed g g.symbols c.args.symbol stated found
-    c.requires.ready.marked.typed.signature in
-    let formed : IsType g (length c.args.members.now) c.in-Some.ty =
-    subst (λ n. IsType g n c.in-Some.ty) (as_many_members m c.requires.ready.marked stated typed c.args.members.now c.args.elements.now are)
-    (result_formed g c.args.symbol stated c.in-Some.ty c.requires.ready.marked.typed.signature found
+    let typed = symbol_typed sig sig.symbols c.args.symbol stated found
+    c.requires.ready.marked.signature in
+    let formed : IsType sig (length c.args.members.now) c.in-Some.ty =
+    subst (λ n. IsType sig n c.in-Some.ty) (as_many_members m c.requires.ready.marked c.requires.ready.fits stated typed c.args.members.now c.args.elements.now are)
+    (result_formed sig c.args.symbol stated c.in-Some.ty c.requires.ready.marked.signature found
     c.in-Some.is) in
-    let small = member_small m c.requires.ready.marked (length c.args.members.now) c.args.members.now
-    c.in-Some.ty formed (each_member m c.requires.ready.marked stated typed c.args.members.now c.args.elements.now are) in
-    let entry : c.entry-entry.result < m.model.now.size =
-    subst (λ n. n < m.model.now.size) (sym c.entry-entry.ensures)
-    ((closed m c.requires.ready.marked).functions c.args.symbol stated c.in-Some.ty
-    (numbers_in m stated c.args.members.now c.args.elements.now) found c.in-Some.is) in
-    let row = ranks_row m m.model.now.size c.args.self.now.picked.now c.args.self.now.ranks.now
+    let small = member_small m c.requires.ready.marked c.requires.ready.fits (length c.args.members.now) c.args.members.now
+    c.in-Some.ty formed (each_member m c.requires.ready.marked c.requires.ready.fits stated typed c.args.members.now c.args.elements.now are) in
+    let entry : c.entry-entry.result < m.model.size =
+    subst (λ n. n < m.model.size) (sym c.entry-entry.ensures)
+    (entry_small m c.requires.ready.marked c.requires.ready.fits stated typed c.args.members.now c.args.elements.now are c.args.symbol found c.table-table.result.now c.table-table.ensures c.in-Some.ty c.in-Some.is c.if-table-eq0.false) in
+    let row = ranks_row m m.model.size c.args.self.now.picked.now c.args.self.now.ranks.now
     c.requires.ready.rows (member_of (typed_in m) c.args.members.now c.in-Some.ty) small
     c.as_slice-in-Some.result.now _
     (c.as_slice-in-Some.ensures
@@ -92,28 +91,27 @@ bounds-as_slice-entry c =
     omega (arith, entry, row.length_is)
 
 pub returns-in-Some : goal.returns-in-Some
-returns-in-Some c =
-    let m = c.args.self.now.marked.now in
-    let g = m.normal.now.signature in
+returns-in-Some g c =
+    let m = (parts_of g.C.Choices.choices c.args.self.now.marked.now) in
+    let sig = m.normal.signature in
     let stated = c.index-as_slice-symbol.result in
-    let same = stated_is g.symbols c.as_slice.result.now c.args.symbol c.requires.within.symbol stated
+    let same = stated_is sig.symbols c.as_slice.result.now c.args.symbol c.requires.within.symbol stated
     c.requires.within.at c.as_slice.ensures c.index-as_slice-symbol.is in
     let found = c.requires.within.at ∙ ap Some same in
     let are = subst (λ one. AreArguments (typed_in m) one c.args.members.now c.args.elements.now) same
     c.requires.within.arguments in
-    let typed = symbol_typed g g.symbols c.args.symbol stated found
-    c.requires.ready.marked.typed.signature in
-    let formed : IsType g (length c.args.members.now) c.in-Some.ty =
-    subst (λ n. IsType g n c.in-Some.ty) (as_many_members m c.requires.ready.marked stated typed c.args.members.now c.args.elements.now are)
-    (result_formed g c.args.symbol stated c.in-Some.ty c.requires.ready.marked.typed.signature found
+    let typed = symbol_typed sig sig.symbols c.args.symbol stated found
+    c.requires.ready.marked.signature in
+    let formed : IsType sig (length c.args.members.now) c.in-Some.ty =
+    subst (λ n. IsType sig n c.in-Some.ty) (as_many_members m c.requires.ready.marked c.requires.ready.fits stated typed c.args.members.now c.args.elements.now are)
+    (result_formed sig c.args.symbol stated c.in-Some.ty c.requires.ready.marked.signature found
     c.in-Some.is) in
-    let small = member_small m c.requires.ready.marked (length c.args.members.now) c.args.members.now
-    c.in-Some.ty formed (each_member m c.requires.ready.marked stated typed c.args.members.now c.args.elements.now are) in
-    let entry : c.entry-entry.result < m.model.now.size =
-    subst (λ n. n < m.model.now.size) (sym c.entry-entry.ensures)
-    ((closed m c.requires.ready.marked).functions c.args.symbol stated c.in-Some.ty
-    (numbers_in m stated c.args.members.now c.args.elements.now) found c.in-Some.is) in
-    let row = ranks_row m m.model.now.size c.args.self.now.picked.now c.args.self.now.ranks.now
+    let small = member_small m c.requires.ready.marked c.requires.ready.fits (length c.args.members.now) c.args.members.now
+    c.in-Some.ty formed (each_member m c.requires.ready.marked c.requires.ready.fits stated typed c.args.members.now c.args.elements.now are) in
+    let entry : c.entry-entry.result < m.model.size =
+    subst (λ n. n < m.model.size) (sym c.entry-entry.ensures)
+    (entry_small m c.requires.ready.marked c.requires.ready.fits stated typed c.args.members.now c.args.elements.now are c.args.symbol found c.table-table.result.now c.table-table.ensures c.in-Some.ty c.in-Some.is c.if-table-eq0.false) in
+    let row = ranks_row m m.model.size c.args.self.now.picked.now c.args.self.now.ranks.now
     c.requires.ready.rows (member_of (typed_in m) c.args.members.now c.in-Some.ty) small
     c.as_slice-in-Some.result.now _
     (c.as_slice-in-Some.ensures
@@ -122,19 +120,33 @@ returns-in-Some c =
     row.each c.entry-entry.result entry
     ∙ ap (λ v. count_below v (picks_in m (member_of (typed_in m) c.args.members.now c.in-Some.ty)))
     c.entry-entry.ensures
-    ∙ value_is m c.requires.ready.marked stated typed c.args.members.now c.args.elements.now are c.args.symbol (Some c.in-Some.ty) found c.in-Some.is
+    ∙ rank_is m c.requires.ready.marked c.requires.ready.fits stated typed c.args.members.now c.args.elements.now are c.args.symbol found c.table-table.result.now c.table-table.ensures c.if-table-eq0.false c.in-Some.ty c.in-Some.is
 
 pub returns-in-None : goal.returns-in-None
-returns-in-None c =
-    let m = c.args.self.now.marked.now in
-    let g = m.normal.now.signature in
+returns-in-None g c =
+    let m = (parts_of g.C.Choices.choices c.args.self.now.marked.now) in
+    let sig = m.normal.signature in
     let stated = c.index-as_slice-symbol.result in
-    let same = stated_is g.symbols c.as_slice.result.now c.args.symbol c.requires.within.symbol stated
+    let same = stated_is sig.symbols c.as_slice.result.now c.args.symbol c.requires.within.symbol stated
     c.requires.within.at c.as_slice.ensures c.index-as_slice-symbol.is in
     let found = c.requires.within.at ∙ ap Some same in
     let are = subst (λ one. AreArguments (typed_in m) one c.args.members.now c.args.elements.now) same
     c.requires.within.arguments in
-    let typed = symbol_typed g g.symbols c.args.symbol stated found
-    c.requires.ready.marked.typed.signature in
+    let typed = symbol_typed sig sig.symbols c.args.symbol stated found
+    c.requires.ready.marked.signature in
     c.entry-entry.ensures
-    ∙ value_is m c.requires.ready.marked stated typed c.args.members.now c.args.elements.now are c.args.symbol None found c.in-None.is
+    ∙ truth_is m c.requires.ready.marked c.requires.ready.fits stated typed c.args.members.now c.args.elements.now are c.args.symbol found c.table-table.result.now c.table-table.ensures c.if-table-eq0.false c.in-None.is
+
+pub returns-then-table-eq0 : goal.returns-then-table-eq0
+returns-then-table-eq0 g c =
+    let m = (parts_of g.C.Choices.choices c.args.self.now.marked.now) in
+    let sig = m.normal.signature in
+    let stated = c.index-as_slice-symbol.result in
+    let same = stated_is sig.symbols c.as_slice.result.now c.args.symbol c.requires.within.symbol stated
+    c.requires.within.at c.as_slice.ensures c.index-as_slice-symbol.is in
+    let found = c.requires.within.at ∙ ap Some same in
+    let are = subst (λ one. AreArguments (typed_in m) one c.args.members.now c.args.elements.now) same
+    c.requires.within.arguments in
+    let typed = symbol_typed sig sig.symbols c.args.symbol stated found
+    c.requires.ready.marked.signature in
+    absent_is m c.requires.ready.marked c.requires.ready.fits stated typed c.args.members.now c.args.elements.now are c.args.symbol found c.table-table.result.now c.table-table.ensures c.if-table-eq0.true

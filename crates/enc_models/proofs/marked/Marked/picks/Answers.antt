@@ -1,26 +1,29 @@
-use Rattle.std.proofs.Common.{arith}
-use Rattle.enc_models.proofs.MarkedTables.{guard_is_long, two_fit}
+use Rattle.std.proofs.Common.{ap, sym, ◌∙◌, eqb}
+use Rattle.enc_marks.specs.declared.choices.Elements.{Elements}
+use Rattle.enc_laws.specs.Lifted.{is_element}
+use Rattle.enc_models.specs.Calls.Lifting.{parts_of, mark_in}
 use Rattle.enc_models.proofs.marked.Marked.picks.Goals as goal
 
-pub bounds-table-at : goal.bounds-table-at
-bounds-table-at c =
-    omega (
-      arith,
-      guard_is_long c.args.self.now c.requires.ready.model.well_formed
-          c.as_slice-symbols.result.now c.as_slice.result.now c.table-table.result.now
-          c.as_slice-symbols.ensures c.as_slice.ensures c.table-table.ensures c.if-table-ne0.true,
-      two_fit c.args.self.now.model.now.size c.args.member c.args.number c.requires.member
-          c.requires.number,
-    )
+pub unreachable-requires : goal.unreachable-requires
+unreachable-requires g c =
+    c.requires.ready.as_they_are (sym c.elements.ensures ∙ c.in-Image.is)
 
-pub offset_bounds-table-at : goal.offset_bounds-table-at
-offset_bounds-table-at c =
-    omega (
-      arith,
-      c.table-table.type_inv,
-      guard_is_long c.args.self.now c.requires.ready.model.well_formed
-          c.as_slice-symbols.result.now c.as_slice.result.now c.table-table.result.now
-          c.as_slice-symbols.ensures c.as_slice.ensures c.table-table.ensures c.if-table-ne0.true,
-      two_fit c.args.self.now.model.now.size c.args.member c.args.number c.requires.member
-          c.requires.number,
-    )
+pub returns-in-Guarded : goal.returns-in-Guarded
+returns-in-Guarded g c =
+    ap (λ v. eqb v 1) c.mark-mark.ensures
+    ∙ ap (λ (e : Elements). is_element e c.args.self.now.model.now.size
+    (mark_in (parts_of g.C.Choices.choices c.args.self.now) c.args.member) c.args.number)
+    (sym c.in-Guarded.is ∙ c.elements.ensures)
+
+pub returns-in-Fixed : goal.returns-in-Fixed
+returns-in-Fixed g c =
+    ap (λ v. eqb v c.args.number) c.mark-mark.ensures
+    ∙ ap (λ (e : Elements). is_element e c.args.self.now.model.now.size
+    (mark_in (parts_of g.C.Choices.choices c.args.self.now) c.args.member) c.args.number)
+    (sym c.in-Fixed.is ∙ c.elements.ensures)
+
+pub returns-in-All : goal.returns-in-All
+returns-in-All g c =
+    ap (λ (e : Elements). is_element e c.args.self.now.model.now.size
+    (mark_in (parts_of g.C.Choices.choices c.args.self.now) c.args.member) c.args.number)
+    (sym c.in-All.is ∙ c.elements.ensures)

@@ -2,25 +2,25 @@ use Rattle.std.proofs.Common.{arith, ap, sym, ◌∙◌, ◌≡◌, ◌+◌, sub
 use Rattle.enc_marks.specs.Occurrence.{count_below}
 use Rattle.enc_marks.proofs.Ranks.{count_below-le}
 use Rattle.enc_laws.proofs.MarksFound.{count_below-next}
-use Rattle.enc_models.specs.Lifting.{picks_in}
-use Rattle.enc_models.proofs.Beginnings.{length-pushed}
+use Rattle.enc_models.specs.Calls.Lifting.{parts_of, picks_in}
+use Rattle.enc_models.proofs.KeptBlocks.{length-pushed}
 use Rattle.enc_models.proofs.PickedNumbers.{ArePickedBelow, more_picked, same_picked, more_values}
 use Rattle.enc_models.proofs.marked.Marked.row.Goals as goal
 use Rattle.enc_models.proofs.marked.Marked.row.Goals.{then-picks+in_ok-push-2, else-picks}
 
 pub overflow_add-size : goal.overflow_add-size
-overflow_add-size c =
+overflow_add-size g c =
     omega (
       arith,
       c.ranges.bound.fits,
       c.loop-number.invariant.size,
       c.loop-number-test.true,
-      count_below-le c.loop-number.number (picks_in c.args.self.now c.args.member),
+      count_below-le c.loop-number.number (picks_in (parts_of g.C.Choices.choices c.args.self.now) c.args.member),
     )
 
 pub loop-number-preserved : goal.loop-number-preserved
-loop-number-preserved c =
-    let test = picks_in c.args.self.now c.args.member in
+loop-number-preserved g c =
+    let test = picks_in (parts_of g.C.Choices.choices c.args.self.now) c.args.member in
     let number = c.loop-number.number in
     let so_far = c.loop-number.invariant in
     record {
@@ -62,8 +62,8 @@ loop-number-preserved c =
     }
 
 pub returns : goal.returns
-returns c =
-    let test = picks_in c.args.self.now c.args.member in
+returns g c =
+    let test = picks_in (parts_of g.C.Choices.choices c.args.self.now) c.args.member in
     let so_far = c.loop-number.invariant in
     let all : c.loop-number.number ≡ c.args.bound =
     omega (arith, c.loop-number.auto.number-end, c.loop-number-test.false) in

@@ -2,34 +2,34 @@ use Rattle.std.proofs.Common.{arith, ℕ, ap, sym, ◌∙◌, ◌≡◌, ◌++�
 use Rattle.enc_marks.specs.Occurrence.{count_below}
 use Rattle.enc_laws.specs.Ranks.{listed}
 use Rattle.enc_laws.proofs.Ranked.{length-listed}
-use Rattle.enc_models.specs.Lifting.{picks_in, AreRows}
+use Rattle.enc_models.specs.Calls.Lifting.{parts_of, picks_in, AreRows}
 use Rattle.enc_models.proofs.PickedNumbers.{listed-more, more_rows}
 use Rattle.enc_models.proofs.marked.Marked.rows.Goals as goal
 
 pub loop-member-preserved : goal.loop-member-preserved
-loop-member-preserved c =
+loop-member-preserved g c =
     let size = c.args.self.now.model.now.size in
-    let sizes : ℕ → ℕ = λ m. count_below size (picks_in c.args.self.now m) in
+    let sizes : ℕ → ℕ = λ m. count_below size (picks_in (parts_of g.C.Choices.choices c.args.self.now) m) in
     let member = c.loop-member.member in
     let so_far = c.loop-member.invariant in
     record {
       sizes =
           c.in_ok-push.ensures.ok
           ∙ ap (λ v. c.loop-member.sizes ++ v ∷ []) c.in_ok-row.ensures.size
-          ∙ ap (λ n. c.loop-member.sizes ++ count_below n (picks_in c.args.self.now member) ∷ [])
+          ∙ ap (λ n. c.loop-member.sizes ++ count_below n (picks_in (parts_of g.C.Choices.choices c.args.self.now) member) ∷ [])
           c.requires.bound
           ∙ ap (λ xs. xs ++ sizes member ∷ []) so_far.sizes
           ∙ sym (listed-more member sizes);
       each =
           rw (c.in_ok-push-2.ensures.ok, c.in_ok-push-3.ensures.ok)
-          (more_rows c.args.self.now member c.loop-member.picked c.loop-member.ranks
+          (more_rows (parts_of g.C.Choices.choices c.args.self.now) member c.loop-member.picked c.loop-member.ranks
           c.in_ok-row.row.picked c.in_ok-row.row.ranks so_far.each
           (rw c.requires.bound at c.in_ok-row.ensures.picked)
           (rw c.requires.bound at c.in_ok-row.ensures.ranks));
     }
 
 pub returns : goal.returns
-returns c =
+returns g c =
     let size = c.args.self.now.model.now.size in
     let all : c.loop-member.member ≡ size =
     omega (
@@ -39,17 +39,17 @@ returns c =
       c.loop-member-test.false,
     ) in
     let whole = c.loop-member.invariant.sizes
-    ∙ ap (λ n. listed n 0 (λ m. count_below size (picks_in c.args.self.now m))) all in
+    ∙ ap (λ n. listed n 0 (λ m. count_below size (picks_in (parts_of g.C.Choices.choices c.args.self.now) m))) all in
     record {
       few = omega (
         arith,
         c.ranges.bound.fits,
         c.requires.bound,
         ap length whole,
-        length-listed size 0 (λ m. count_below size (picks_in c.args.self.now m)),
+        length-listed size 0 (λ m. count_below size (picks_in (parts_of g.C.Choices.choices c.args.self.now) m)),
       );
       sizes = whole;
       each =
-          subst (λ n. AreRows c.args.self.now n c.loop-member.picked c.loop-member.ranks) all
+          subst (λ n. AreRows (parts_of g.C.Choices.choices c.args.self.now) n c.loop-member.picked c.loop-member.ranks) all
           c.loop-member.invariant.each;
     }

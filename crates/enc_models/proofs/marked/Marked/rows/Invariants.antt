@@ -1,12 +1,12 @@
 use Rattle.std.proofs.Common.{◌≡◌}
 use Rattle.enc_marks.specs.Occurrence.{count_below}
 use Rattle.enc_laws.specs.Ranks.{listed}
-use Rattle.enc_models.specs.Lifting.{picks_in, AreRows}
+use Rattle.enc_models.specs.Calls.Lifting.{parts_of, picks_in, AreRows}
 use Rattle.enc_models.proofs.marked.Marked.rows.Given as goal
 
 abbrev pub invariant-loop-member : goal.invariant-loop-member
-invariant-loop-member l = record {
+invariant-loop-member g l = record {
   sizes : l.sizes
-      ≡ listed l.member 0 (λ m. count_below l.self.model.now.size (picks_in l.self m));
-  each : AreRows l.self l.member l.picked l.ranks;
+      ≡ listed l.member 0 (λ m. count_below l.self.model.now.size (picks_in (parts_of g.C.Choices.choices l.self) m));
+  each : AreRows (parts_of g.C.Choices.choices l.self) l.member l.picked l.ranks;
 }

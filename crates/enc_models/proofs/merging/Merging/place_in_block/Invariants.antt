@@ -1,11 +1,10 @@
-use Rattle.std.proofs.Common.{◌≡◌, take}
+use Rattle.std.proofs.Common.{◌≡◌, map, take, slice_index}
 use Rattle.enc_base.specs.Tables.{place}
-use Rattle.tf_models.specs.Fit.{bounds_at}
-use Rattle.enc_models.specs.Merging.{tables_in, elements_in_block}
+use Rattle.enc_laws.specs.MergedStructure.{elements_read}
 use Rattle.enc_models.proofs.merging.Merging.place_in_block.Given as goal
 
 abbrev pub invariant-loop-i : goal.invariant-loop-i
-invariant-loop-i l =
+invariant-loop-i g l =
     l.at
-    ≡ place (take l.i (bounds_at (tables_in l.self) l.symbol l.number))
-    (take l.i (elements_in_block l.self l.symbol l.number l.values))
+    ≡ place (take l.i (map (slice_index l.self.model.now.sizes) l.members))
+    (take l.i (elements_read l.self.model.now.sizes l.members l.values))

@@ -4,7 +4,7 @@ use Rattle.enc_models.proofs.Numbers.{number_below, members-step, members-fit, m
 use Rattle.enc_models.proofs.merging.Merging.place_of_members.Goals as goal
 
 pub overflow_mul-at : goal.overflow_mul-at
-overflow_mul-at c =
+overflow_mul-at g c =
     rw c.as_slice-count.ensures
     (omega (
       arith,
@@ -17,7 +17,7 @@ overflow_mul-at c =
     ))
 
 pub member_of-requires : goal.member_of-requires
-member_of-requires c =
+member_of-requires g c =
     record {
       number = subst
           (λ sizes. get_or c.args.values.now c.loop-value.value-index 0 < merged_size sizes)
@@ -27,7 +27,7 @@ member_of-requires c =
     }
 
 pub overflow_add-at : goal.overflow_add-at
-overflow_add-at c =
+overflow_add-at g c =
     rw c.as_slice-count.ensures
     (omega (
       arith,
@@ -41,7 +41,7 @@ overflow_add-at c =
     ))
 
 pub loop-value-preserved : goal.loop-value-preserved
-loop-value-preserved c =
+loop-value-preserved g c =
     rw c.as_slice-count.ensures
     (members-step c.args.self.now.model.now.sizes c.args.values.now c.requires.numbers
     c.loop-value.value-index c.loop-value.at c.member_of.result c.loop-value-test.true
@@ -51,7 +51,7 @@ loop-value-preserved c =
     c.loop-value.invariant)
 
 pub returns : goal.returns
-returns c =
+returns g c =
     record {
       exact = members_placed c.args.self.now.model.now.sizes c.args.values.now c.requires.numbers
           c.loop-value.value-index c.loop-value.at (omega (arith, c.loop-value-test.false))

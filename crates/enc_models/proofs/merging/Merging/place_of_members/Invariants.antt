@@ -1,10 +1,10 @@
 use Rattle.std.proofs.Common.{◌≡◌, take, length, replicate}
 use Rattle.enc_base.specs.Tables.{place}
-use Rattle.enc_models.specs.Merging.{members_in}
+use Rattle.enc_models.specs.Calls.Merging.{parts_of, members_in}
 use Rattle.enc_models.proofs.merging.Merging.place_of_members.Given as goal
 
 abbrev pub invariant-loop-value : goal.invariant-loop-value
-invariant-loop-value l =
+invariant-loop-value g l =
     l.at
     ≡ place (take l.value-index (replicate (length l.values) (length l.self.model.now.sizes)))
-    (take l.value-index (members_in l.self l.values))
+    (take l.value-index (members_in (parts_of g.C.Choices.choices l.self) l.values))

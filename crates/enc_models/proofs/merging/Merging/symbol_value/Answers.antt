@@ -1,107 +1,276 @@
-use Rattle.std.proofs.Common.{sym, ◌∙◌, length, subst}
-use Rattle.enc_models.specs.Merging.{AreNumbers}
-use Rattle.enc_models.proofs.Symbols.{symbol_read, values_long, own_below, kept_numbers, table_within, parameters_fit, result_typed, given_block, entry_below, predicate_is, function_is}
+use Rattle.std.proofs.Common.{arith, ap, sym, subst, ◌∙◌, ◌+◌, length, slice_index}
+use Rattle.enc_models.specs.Calls.Merging.{parts_of, AreNumbers}
+use Rattle.enc_models.proofs.KeptBlocks.{mark_within, are_blocks, block_read}
+use Rattle.enc_models.proofs.Symbols.{symbol_read, values_long, kept_numbers, parameters_fit, number_within, arguments_below, own_numbers, arguments_fit, entry_inside, predicate_is, member_within, entry_below, function_is}
 use Rattle.enc_models.proofs.merging.Merging.symbol_value.Goals as goal
 
 pub split_at-requires : goal.split_at-requires
-split_at-requires c =
-    let given = symbol_read c.args.self.now c.args.at c.args.f c.args.values.now c.requires.symbol
-    c.as_slice.result.now c.index-as_slice-f.result c.as_slice.ensures c.index-as_slice-f.is in
-    values_long c.args.self.now c.requires.ready c.args.at c.args.f c.index-as_slice-f.result
-    c.args.values.now given
+split_at-requires g c =
+    let given = symbol_read (parts_of g.C.Choices.choices c.args.self.now) c.args.at c.args.f
+    c.args.values.now c.requires.symbol c.as_slice.result.now c.index-as_slice-f.result
+    c.as_slice.ensures c.index-as_slice-f.is in
+    values_long (parts_of g.C.Choices.choices c.args.self.now) c.requires.ready c.args.at c.args.f
+    c.index-as_slice-f.result c.args.values.now given
 
-pub symbol_table-requires : goal.symbol_table-requires
-symbol_table-requires c =
-    let given = symbol_read c.args.self.now c.args.at c.args.f c.args.values.now c.requires.symbol
-    c.as_slice.result.now c.index-as_slice-f.result c.as_slice.ensures c.index-as_slice-f.is in
-    table_within c.args.self.now c.requires.ready c.args.at c.args.f c.index-as_slice-f.result
-    c.args.values.now given
+pub place_of_members-number-requires-clause-numbers : goal.place_of_members-number-requires-clause-numbers
+place_of_members-number-requires-clause-numbers g c =
+    let given = symbol_read (parts_of g.C.Choices.choices c.args.self.now) c.args.at c.args.f
+    c.args.values.now c.requires.symbol c.as_slice.result.now c.index-as_slice-f.result
+    c.as_slice.ensures c.index-as_slice-f.is in
+    subst (λ kept. AreNumbers (parts_of g.C.Choices.choices c.args.self.now) (length kept) kept)
+    (sym c.split_at.ensures.front) (kept_numbers (parts_of g.C.Choices.choices c.args.self.now) c.requires.ready c.args.at c.args.f
+    c.index-as_slice-f.result c.args.values.now given)
 
-pub place_of_members-number-requires-clause-numbers :
-    goal.place_of_members-number-requires-clause-numbers
-place_of_members-number-requires-clause-numbers c =
-    let given = symbol_read c.args.self.now c.args.at c.args.f c.args.values.now c.requires.symbol
-    c.as_slice.result.now c.index-as_slice-f.result c.as_slice.ensures c.index-as_slice-f.is in
-    subst (λ kept. AreNumbers c.args.self.now (length kept) kept) (sym c.split_at.ensures.front)
-    (kept_numbers c.args.self.now c.requires.ready c.args.at c.args.f c.index-as_slice-f.result
-    c.args.values.now given)
+pub place_of_members-number-requires-clause-entries : goal.place_of_members-number-requires-clause-entries
+place_of_members-number-requires-clause-entries g c =
+    let given = symbol_read (parts_of g.C.Choices.choices c.args.self.now) c.args.at c.args.f
+    c.args.values.now c.requires.symbol c.as_slice.result.now c.index-as_slice-f.result
+    c.as_slice.ensures c.index-as_slice-f.is in
+    rw (c.split_at.ensures.front, c.symbol_table-table.ensures)
+    (parameters_fit (parts_of g.C.Choices.choices c.args.self.now) c.requires.ready c.args.at c.args.f
+    c.index-as_slice-f.result c.args.values.now given)
 
-pub place_of_members-number-requires-clause-entries :
-    goal.place_of_members-number-requires-clause-entries
-place_of_members-number-requires-clause-entries c =
-    let given = symbol_read c.args.self.now c.args.at c.args.f c.args.values.now c.requires.symbol
-    c.as_slice.result.now c.index-as_slice-f.result c.as_slice.ensures c.index-as_slice-f.is in
-    rw (c.split_at.ensures.front, c.symbol_table.ensures)
-    (parameters_fit c.args.self.now c.requires.ready c.args.at c.args.f c.index-as_slice-f.result
-    c.args.values.now given)
+pub bounds-self-at : goal.bounds-self-at
+bounds-self-at g c =
+    let given = symbol_read (parts_of g.C.Choices.choices c.args.self.now) c.args.at c.args.f
+    c.args.values.now c.requires.symbol c.as_slice.result.now c.index-as_slice-f.result
+    c.as_slice.ensures c.index-as_slice-f.is in
+    mark_within (parts_of g.C.Choices.choices c.args.self.now) c.requires.ready c.args.at c.args.f
+    c.index-as_slice-f.result given.marked
 
-pub entry-entry-requires-clause-marked : goal.entry-entry-requires-clause-marked
-entry-entry-requires-clause-marked c =
-    let given = symbol_read c.args.self.now c.args.at c.args.f c.args.values.now c.requires.symbol
-    c.as_slice.result.now c.index-as_slice-f.result c.as_slice.ensures c.index-as_slice-f.is in
-    given.marked
+pub offset_bounds-as_slice-number : goal.offset_bounds-as_slice-number
+offset_bounds-as_slice-number g c =
+    let given = symbol_read (parts_of g.C.Choices.choices c.args.self.now) c.args.at c.args.f
+    c.args.values.now c.requires.symbol c.as_slice.result.now c.index-as_slice-f.result
+    c.as_slice.ensures c.index-as_slice-f.is in
+    let placed = rw c.split_at.ensures.front at c.place_of_members-number.ensures.exact in
+    let number = c.place_of_members-number.result in
+    let within = number_within (parts_of g.C.Choices.choices c.args.self.now) c.requires.ready c.args.at c.args.f
+    c.index-as_slice-f.result c.args.values.now given number placed in
+    omega (
+      arith,
+      c.as_slice-2.type_inv,
+      (are_blocks (parts_of g.C.Choices.choices c.args.self.now) c.requires.ready c.args.at c.args.f
+          c.index-as_slice-f.result given.marked c.as_slice-2.result.now c.index-self-at.result
+          c.as_slice-2.ensures).count,
+      within,
+    )
 
-pub entry-entry-requires-clause-block : goal.entry-entry-requires-clause-block
-entry-entry-requires-clause-block c =
-    let given = symbol_read c.args.self.now c.args.at c.args.f c.args.values.now c.requires.symbol
-    c.as_slice.result.now c.index-as_slice-f.result c.as_slice.ensures c.index-as_slice-f.is in
-    given_block c.args.self.now c.requires.ready c.args.at c.args.f c.index-as_slice-f.result
-    c.args.values.now given c.place_of_members-number.result
-    (rw c.split_at.ensures.front at c.place_of_members-number.ensures.exact)
+pub bounds-as_slice-number : goal.bounds-as_slice-number
+bounds-as_slice-number g c =
+    let given = symbol_read (parts_of g.C.Choices.choices c.args.self.now) c.args.at c.args.f
+    c.args.values.now c.requires.symbol c.as_slice.result.now c.index-as_slice-f.result
+    c.as_slice.ensures c.index-as_slice-f.is in
+    let placed = rw c.split_at.ensures.front at c.place_of_members-number.ensures.exact in
+    let number = c.place_of_members-number.result in
+    let within = number_within (parts_of g.C.Choices.choices c.args.self.now) c.requires.ready c.args.at c.args.f
+    c.index-as_slice-f.result c.args.values.now given number placed in
+    omega (
+      arith,
+      (are_blocks (parts_of g.C.Choices.choices c.args.self.now) c.requires.ready c.args.at c.args.f
+          c.index-as_slice-f.result given.marked c.as_slice-2.result.now c.index-self-at.result
+          c.as_slice-2.ensures).count,
+      within,
+    )
 
-pub entry-entry-requires-clause-numbers : goal.entry-entry-requires-clause-numbers
-entry-entry-requires-clause-numbers c =
-    let given = symbol_read c.args.self.now c.args.at c.args.f c.args.values.now c.requires.symbol
-    c.as_slice.result.now c.index-as_slice-f.result c.as_slice.ensures c.index-as_slice-f.is in
-    rw c.split_at.ensures.back
-    (own_below c.args.self.now c.requires.ready c.args.at c.args.f c.index-as_slice-f.result
-    c.args.values.now given)
+pub place_in_block-place-requires-clause-members : goal.place_in_block-place-requires-clause-members
+place_in_block-place-requires-clause-members g c =
+    let given = symbol_read (parts_of g.C.Choices.choices c.args.self.now) c.args.at c.args.f
+    c.args.values.now c.requires.symbol c.as_slice.result.now c.index-as_slice-f.result
+    c.as_slice.ensures c.index-as_slice-f.is in
+    let placed = rw c.split_at.ensures.front at c.place_of_members-number.ensures.exact in
+    let number = c.place_of_members-number.result in
+    let within = number_within (parts_of g.C.Choices.choices c.args.self.now) c.requires.ready c.args.at c.args.f
+    c.index-as_slice-f.result c.args.values.now given number placed in
+    let block = c.index-as_slice-number.result in
+    let kept = block_read (parts_of g.C.Choices.choices c.args.self.now) c.requires.ready c.args.at c.args.f
+    c.index-as_slice-f.result given.marked c.as_slice-2.result.now c.index-self-at.result
+    c.as_slice-2.ensures number within block c.index-as_slice-number.is in
+    rw c.as_slice-3.ensures (arguments_below (parts_of g.C.Choices.choices c.args.self.now) c.requires.ready c.args.at c.args.f
+    c.index-as_slice-f.result c.args.values.now given number placed block kept)
 
-pub stamp_of-requires-clause-block : goal.stamp_of-requires-clause-block
-stamp_of-requires-clause-block c =
-    let given = symbol_read c.args.self.now c.args.at c.args.f c.args.values.now c.requires.symbol
-    c.as_slice.result.now c.index-as_slice-f.result c.as_slice.ensures c.index-as_slice-f.is in
-    given_block c.args.self.now c.requires.ready c.args.at c.args.f c.index-as_slice-f.result
-    c.args.values.now given c.place_of_members-number.result
-    (rw c.split_at.ensures.front at c.place_of_members-number.ensures.exact)
+pub place_in_block-place-requires-clause-numbers : goal.place_in_block-place-requires-clause-numbers
+place_in_block-place-requires-clause-numbers g c =
+    let given = symbol_read (parts_of g.C.Choices.choices c.args.self.now) c.args.at c.args.f
+    c.args.values.now c.requires.symbol c.as_slice.result.now c.index-as_slice-f.result
+    c.as_slice.ensures c.index-as_slice-f.is in
+    let placed = rw c.split_at.ensures.front at c.place_of_members-number.ensures.exact in
+    let number = c.place_of_members-number.result in
+    let within = number_within (parts_of g.C.Choices.choices c.args.self.now) c.requires.ready c.args.at c.args.f
+    c.index-as_slice-f.result c.args.values.now given number placed in
+    let block = c.index-as_slice-number.result in
+    let kept = block_read (parts_of g.C.Choices.choices c.args.self.now) c.requires.ready c.args.at c.args.f
+    c.index-as_slice-f.result given.marked c.as_slice-2.result.now c.index-self-at.result
+    c.as_slice-2.ensures number within block c.index-as_slice-number.is in
+    rw (c.as_slice-3.ensures, c.split_at.ensures.back) (own_numbers (parts_of g.C.Choices.choices c.args.self.now) c.requires.ready c.args.at c.args.f
+    c.index-as_slice-f.result c.args.values.now given number placed block kept)
 
-pub stamp_of-requires-clause-typed : goal.stamp_of-requires-clause-typed
-stamp_of-requires-clause-typed c =
-    let given = symbol_read c.args.self.now c.args.at c.args.f c.args.values.now c.requires.symbol
-    c.as_slice.result.now c.index-as_slice-f.result c.as_slice.ensures c.index-as_slice-f.is in
-    result_typed c.args.self.now c.requires.ready c.args.at c.args.f c.index-as_slice-f.result
-    c.args.values.now given c.in-Some.ty c.in-Some.is
+pub place_in_block-place-requires-clause-entries : goal.place_in_block-place-requires-clause-entries
+place_in_block-place-requires-clause-entries g c =
+    let given = symbol_read (parts_of g.C.Choices.choices c.args.self.now) c.args.at c.args.f
+    c.args.values.now c.requires.symbol c.as_slice.result.now c.index-as_slice-f.result
+    c.as_slice.ensures c.index-as_slice-f.is in
+    let placed = rw c.split_at.ensures.front at c.place_of_members-number.ensures.exact in
+    let number = c.place_of_members-number.result in
+    let within = number_within (parts_of g.C.Choices.choices c.args.self.now) c.requires.ready c.args.at c.args.f
+    c.index-as_slice-f.result c.args.values.now given number placed in
+    let block = c.index-as_slice-number.result in
+    let kept = block_read (parts_of g.C.Choices.choices c.args.self.now) c.requires.ready c.args.at c.args.f
+    c.index-as_slice-f.result given.marked c.as_slice-2.result.now c.index-self-at.result
+    c.as_slice-2.ensures number within block c.index-as_slice-number.is in
+    rw (c.as_slice-3.ensures, c.symbol_table-table.ensures) (arguments_fit (parts_of g.C.Choices.choices c.args.self.now) c.requires.ready c.args.at c.args.f
+    c.index-as_slice-f.result c.args.values.now given number placed block kept)
 
-pub stamp_of-requires-clause-element : goal.stamp_of-requires-clause-element
-stamp_of-requires-clause-element c =
-    let given = symbol_read c.args.self.now c.args.at c.args.f c.args.values.now c.requires.symbol
-    c.as_slice.result.now c.index-as_slice-f.result c.as_slice.ensures c.index-as_slice-f.is in
-    entry_below c.args.self.now c.requires.ready c.args.at c.args.f c.index-as_slice-f.result
-    c.args.values.now given c.place_of_members-number.result
-    (rw c.split_at.ensures.front at c.place_of_members-number.ensures.exact) c.entry-entry.result
-    (rw c.split_at.ensures.back at c.entry-entry.ensures.exact) c.in-Some.ty c.in-Some.is
+pub overflow_add-entry : goal.overflow_add-entry
+overflow_add-entry g c =
+    let given = symbol_read (parts_of g.C.Choices.choices c.args.self.now) c.args.at c.args.f
+    c.args.values.now c.requires.symbol c.as_slice.result.now c.index-as_slice-f.result
+    c.as_slice.ensures c.index-as_slice-f.is in
+    let placed = rw c.split_at.ensures.front at c.place_of_members-number.ensures.exact in
+    let number = c.place_of_members-number.result in
+    let within = number_within (parts_of g.C.Choices.choices c.args.self.now) c.requires.ready c.args.at c.args.f
+    c.index-as_slice-f.result c.args.values.now given number placed in
+    let block = c.index-as_slice-number.result in
+    let kept = block_read (parts_of g.C.Choices.choices c.args.self.now) c.requires.ready c.args.at c.args.f
+    c.index-as_slice-f.result given.marked c.as_slice-2.result.now c.index-self-at.result
+    c.as_slice-2.ensures number within block c.index-as_slice-number.is in
+    let stands = rw (c.as_slice-3.ensures, c.split_at.ensures.back) at c.place_in_block-place.ensures.exact in
+    let at_place = c.place_in_block-place.result in
+    omega (
+      arith,
+      c.symbol_table-table.type_inv,
+      ap length c.symbol_table-table.ensures,
+      entry_inside (parts_of g.C.Choices.choices c.args.self.now) c.requires.ready c.args.at c.args.f
+          c.index-as_slice-f.result c.args.values.now given number placed block kept at_place stands,
+    )
+
+pub offset_bounds-table-block : goal.offset_bounds-table-block
+offset_bounds-table-block g c =
+    let given = symbol_read (parts_of g.C.Choices.choices c.args.self.now) c.args.at c.args.f
+    c.args.values.now c.requires.symbol c.as_slice.result.now c.index-as_slice-f.result
+    c.as_slice.ensures c.index-as_slice-f.is in
+    let placed = rw c.split_at.ensures.front at c.place_of_members-number.ensures.exact in
+    let number = c.place_of_members-number.result in
+    let within = number_within (parts_of g.C.Choices.choices c.args.self.now) c.requires.ready c.args.at c.args.f
+    c.index-as_slice-f.result c.args.values.now given number placed in
+    let block = c.index-as_slice-number.result in
+    let kept = block_read (parts_of g.C.Choices.choices c.args.self.now) c.requires.ready c.args.at c.args.f
+    c.index-as_slice-f.result given.marked c.as_slice-2.result.now c.index-self-at.result
+    c.as_slice-2.ensures number within block c.index-as_slice-number.is in
+    let stands = rw (c.as_slice-3.ensures, c.split_at.ensures.back) at c.place_in_block-place.ensures.exact in
+    let at_place = c.place_in_block-place.result in
+    omega (
+      arith,
+      c.symbol_table-table.type_inv,
+      ap length c.symbol_table-table.ensures,
+      entry_inside (parts_of g.C.Choices.choices c.args.self.now) c.requires.ready c.args.at c.args.f
+          c.index-as_slice-f.result c.args.values.now given number placed block kept at_place stands,
+    )
+
+pub bounds-table-block : goal.bounds-table-block
+bounds-table-block g c =
+    let given = symbol_read (parts_of g.C.Choices.choices c.args.self.now) c.args.at c.args.f
+    c.args.values.now c.requires.symbol c.as_slice.result.now c.index-as_slice-f.result
+    c.as_slice.ensures c.index-as_slice-f.is in
+    let placed = rw c.split_at.ensures.front at c.place_of_members-number.ensures.exact in
+    let number = c.place_of_members-number.result in
+    let within = number_within (parts_of g.C.Choices.choices c.args.self.now) c.requires.ready c.args.at c.args.f
+    c.index-as_slice-f.result c.args.values.now given number placed in
+    let block = c.index-as_slice-number.result in
+    let kept = block_read (parts_of g.C.Choices.choices c.args.self.now) c.requires.ready c.args.at c.args.f
+    c.index-as_slice-f.result given.marked c.as_slice-2.result.now c.index-self-at.result
+    c.as_slice-2.ensures number within block c.index-as_slice-number.is in
+    let stands = rw (c.as_slice-3.ensures, c.split_at.ensures.back) at c.place_in_block-place.ensures.exact in
+    let at_place = c.place_in_block-place.result in
+    omega (
+      arith,
+      c.symbol_table-table.type_inv,
+      ap length c.symbol_table-table.ensures,
+      entry_inside (parts_of g.C.Choices.choices c.args.self.now) c.requires.ready c.args.at c.args.f
+          c.index-as_slice-f.result c.args.values.now given number placed block kept at_place stands,
+    )
+
+pub stamp-requires-clause-member : goal.stamp-requires-clause-member
+stamp-requires-clause-member g c =
+    let given = symbol_read (parts_of g.C.Choices.choices c.args.self.now) c.args.at c.args.f
+    c.args.values.now c.requires.symbol c.as_slice.result.now c.index-as_slice-f.result
+    c.as_slice.ensures c.index-as_slice-f.is in
+    let placed = rw c.split_at.ensures.front at c.place_of_members-number.ensures.exact in
+    let number = c.place_of_members-number.result in
+    let within = number_within (parts_of g.C.Choices.choices c.args.self.now) c.requires.ready c.args.at c.args.f
+    c.index-as_slice-f.result c.args.values.now given number placed in
+    let block = c.index-as_slice-number.result in
+    let kept = block_read (parts_of g.C.Choices.choices c.args.self.now) c.requires.ready c.args.at c.args.f
+    c.index-as_slice-f.result given.marked c.as_slice-2.result.now c.index-self-at.result
+    c.as_slice-2.ensures number within block c.index-as_slice-number.is in
+    let stands = rw (c.as_slice-3.ensures, c.split_at.ensures.back) at c.place_in_block-place.ensures.exact in
+    let at_place = c.place_in_block-place.result in
+    let entry = slice_index c.symbol_table-table.result.now (block.start + at_place) in
+    let read = ap (λ table. slice_index table (block.start + at_place)) c.symbol_table-table.ensures in
+    rw c.requires.ready.stamped_is (member_within (parts_of g.C.Choices.choices c.args.self.now) c.requires.ready c.args.at c.args.f
+    c.index-as_slice-f.result c.args.values.now given number placed block kept at_place stands entry read c.in-Some.member c.in-Some.is)
+
+pub stamp-requires-clause-element : goal.stamp-requires-clause-element
+stamp-requires-clause-element g c =
+    let given = symbol_read (parts_of g.C.Choices.choices c.args.self.now) c.args.at c.args.f
+    c.args.values.now c.requires.symbol c.as_slice.result.now c.index-as_slice-f.result
+    c.as_slice.ensures c.index-as_slice-f.is in
+    let placed = rw c.split_at.ensures.front at c.place_of_members-number.ensures.exact in
+    let number = c.place_of_members-number.result in
+    let within = number_within (parts_of g.C.Choices.choices c.args.self.now) c.requires.ready c.args.at c.args.f
+    c.index-as_slice-f.result c.args.values.now given number placed in
+    let block = c.index-as_slice-number.result in
+    let kept = block_read (parts_of g.C.Choices.choices c.args.self.now) c.requires.ready c.args.at c.args.f
+    c.index-as_slice-f.result given.marked c.as_slice-2.result.now c.index-self-at.result
+    c.as_slice-2.ensures number within block c.index-as_slice-number.is in
+    let stands = rw (c.as_slice-3.ensures, c.split_at.ensures.back) at c.place_in_block-place.ensures.exact in
+    let at_place = c.place_in_block-place.result in
+    let entry = slice_index c.symbol_table-table.result.now (block.start + at_place) in
+    let read = ap (λ table. slice_index table (block.start + at_place)) c.symbol_table-table.ensures in
+    rw c.requires.ready.stamped_is (entry_below (parts_of g.C.Choices.choices c.args.self.now) c.requires.ready c.args.at c.args.f
+    c.index-as_slice-f.result c.args.values.now given number placed block kept at_place stands entry read c.in-Some.member c.in-Some.is)
 
 pub returns-in-None : goal.returns-in-None
-returns-in-None c =
-    let given = symbol_read c.args.self.now c.args.at c.args.f c.args.values.now c.requires.symbol
-    c.as_slice.result.now c.index-as_slice-f.result c.as_slice.ensures c.index-as_slice-f.is in
+returns-in-None g c =
+    let given = symbol_read (parts_of g.C.Choices.choices c.args.self.now) c.args.at c.args.f
+    c.args.values.now c.requires.symbol c.as_slice.result.now c.index-as_slice-f.result
+    c.as_slice.ensures c.index-as_slice-f.is in
+    let placed = rw c.split_at.ensures.front at c.place_of_members-number.ensures.exact in
+    let number = c.place_of_members-number.result in
+    let within = number_within (parts_of g.C.Choices.choices c.args.self.now) c.requires.ready c.args.at c.args.f
+    c.index-as_slice-f.result c.args.values.now given number placed in
+    let block = c.index-as_slice-number.result in
+    let kept = block_read (parts_of g.C.Choices.choices c.args.self.now) c.requires.ready c.args.at c.args.f
+    c.index-as_slice-f.result given.marked c.as_slice-2.result.now c.index-self-at.result
+    c.as_slice-2.ensures number within block c.index-as_slice-number.is in
+    let stands = rw (c.as_slice-3.ensures, c.split_at.ensures.back) at c.place_in_block-place.ensures.exact in
+    let at_place = c.place_in_block-place.result in
+    let entry = slice_index c.symbol_table-table.result.now (block.start + at_place) in
+    let read = ap (λ table. slice_index table (block.start + at_place)) c.symbol_table-table.ensures in
     record {
-      exact = predicate_is c.args.self.now c.requires.ready c.args.at c.args.f
-          c.index-as_slice-f.result c.args.values.now given c.place_of_members-number.result
-          (rw c.split_at.ensures.front at c.place_of_members-number.ensures.exact)
-          c.entry-entry.result (rw c.split_at.ensures.back at c.entry-entry.ensures.exact)
-          c.in-None.is;
+      exact = predicate_is (parts_of g.C.Choices.choices c.args.self.now) c.requires.ready c.args.at c.args.f
+          c.index-as_slice-f.result c.args.values.now given number placed block kept at_place stands entry read c.in-None.is;
     }
 
 pub returns-in-Some : goal.returns-in-Some
-returns-in-Some c =
-    let given = symbol_read c.args.self.now c.args.at c.args.f c.args.values.now c.requires.symbol
-    c.as_slice.result.now c.index-as_slice-f.result c.as_slice.ensures c.index-as_slice-f.is in
+returns-in-Some g c =
+    let given = symbol_read (parts_of g.C.Choices.choices c.args.self.now) c.args.at c.args.f
+    c.args.values.now c.requires.symbol c.as_slice.result.now c.index-as_slice-f.result
+    c.as_slice.ensures c.index-as_slice-f.is in
+    let placed = rw c.split_at.ensures.front at c.place_of_members-number.ensures.exact in
+    let number = c.place_of_members-number.result in
+    let within = number_within (parts_of g.C.Choices.choices c.args.self.now) c.requires.ready c.args.at c.args.f
+    c.index-as_slice-f.result c.args.values.now given number placed in
+    let block = c.index-as_slice-number.result in
+    let kept = block_read (parts_of g.C.Choices.choices c.args.self.now) c.requires.ready c.args.at c.args.f
+    c.index-as_slice-f.result given.marked c.as_slice-2.result.now c.index-self-at.result
+    c.as_slice-2.ensures number within block c.index-as_slice-number.is in
+    let stands = rw (c.as_slice-3.ensures, c.split_at.ensures.back) at c.place_in_block-place.ensures.exact in
+    let at_place = c.place_in_block-place.result in
+    let entry = slice_index c.symbol_table-table.result.now (block.start + at_place) in
+    let read = ap (λ table. slice_index table (block.start + at_place)) c.symbol_table-table.ensures in
     record {
-      exact = c.stamp_of.ensures.exact
-          ∙ function_is c.args.self.now c.requires.ready c.args.at c.args.f
-          c.index-as_slice-f.result c.args.values.now given c.place_of_members-number.result
-          (rw c.split_at.ensures.front at c.place_of_members-number.ensures.exact)
-          c.entry-entry.result (rw c.split_at.ensures.back at c.entry-entry.ensures.exact)
-          c.in-Some.ty c.in-Some.is;
+      exact = (rw c.requires.ready.stamped_is at c.stamp.ensures.exact)
+          ∙ function_is (parts_of g.C.Choices.choices c.args.self.now) c.requires.ready c.args.at c.args.f
+          c.index-as_slice-f.result c.args.values.now given number placed block kept at_place stands entry read c.in-Some.member c.in-Some.is;
     }

@@ -1,0 +1,112 @@
+-- Schemes keep models, from the laws of the structures.
+use Rattle.std.specs.Prelude.{◌↔◌, List, [], ◌∷◌, length}
+use Rattle.std.specs.List.{AllByRecursion}
+use Rattle.std.proofs.Common.{refl, sym, subst}
+use Rattle.tf_core.specs.declared.normal.NormalFormula.{NormalFormula}
+use Rattle.tf_core.specs.declared.normal.Normal.{Normal}
+use Rattle.tf_core.specs.declared.signature.Signature.{Signature}
+use Rattle.tf_core.specs.Structures.{Typed}
+use Rattle.tf_core.specs.Typing.{IsNnf, IsNormal}
+use Rattle.tf_core.specs.Sound.{IsSoundFormula, IsSoundNormal}
+use Rattle.tf_core.specs.TypedTables.{TypedTables, AreNormalModel}
+use Rattle.tf_core.specs.TypedTables as typed
+use Rattle.fof_models.specs.Models.{AreModel, HasFiniteModel}
+use Rattle.fof_models.specs.Tabled.{tabled}
+use Rattle.fof_models.proofs.Tabled.{AreModel-tabled}
+use Rattle.enc_marks.specs.declared.scheme.Scheme.{Scheme}
+use Rattle.enc_marks.specs.declared.scheme.Scheme.TheVariants as scheme
+use Rattle.enc_marks.specs.Applies.{Applies}
+use Rattle.enc_marks.specs.Choices.{Choices}
+use Rattle.enc_marks.specs.Encoded.{all_marks, is_present, translation, encoded}
+use Rattle.enc_marks.specs.Schemes.{choices_of}
+use Rattle.enc_marks.proofs.Sound.{translations_well_formed}
+use Rattle.enc_marks.proofs.SoundSchemes.{schemes_fitting}
+use Rattle.enc_laws.specs.Present.{over_present}
+use Rattle.enc_laws.proofs.Schemes.{models_encoded, tables_lifted}
+use Rattle.structure_tables.proofs.TypedModels.{AreNormalModel-tabled}
+use Rattle.enc_models.specs.Lowered.{structure_by, lowered}
+use Rattle.enc_models.specs.LiftedTables.{lifted_structure, lifted_tables}
+use Rattle.enc_models.specs.KeepsModels.{translation_by, LowersModels, LiftsModels, KeepsModels, IsMerged, IsMarkedByType}
+
+-- a sound normal problem is well typed
+formulas_typed : (g : Signature) (formulas : List NormalFormula) →
+    AllByRecursion (IsSoundFormula g) formulas →
+    AllByRecursion (λ formula. IsNnf g formula.type_variables [] formula.body) formulas
+formulas_typed g [] are = tt
+formulas_typed g (formula ∷ formulas) are = (are.0.typed, formulas_typed g formulas are.1)
+
+pub normal_typed : (normal : Normal) → IsSoundNormal normal → IsNormal normal
+normal_typed normal sound = record {
+  signature = sound.signature.typed;
+  formulas = formulas_typed normal.signature normal.formulas sound.formulas;
+}
+
+pub lowers_models : (which : Scheme) → IsMerged which → LowersModels which
+lowers_models which merges normal t sound applies are =
+    let c : Choices = choices_of which normal in
+    let s : Typed = typed.reading normal.signature t in
+    subst (λ d. AreModel (encoded c normal).problem (tabled (encoded c normal).problem.signature
+    (over_present (is_present (translation c normal)) (length (all_marks c normal))
+    (structure_by d c normal s)))) (sym (merges normal))
+    (AreModel-tabled (encoded c normal).problem _
+    (translations_well_formed c normal (schemes_fitting.schemes which normal applies) sound)
+    (models_encoded which normal s (merges normal) (normal_typed normal sound) are.model))
+
+pub lifts_models : (which : Scheme) → IsMarkedByType which → LiftsModels which
+lifts_models which by normal s sound applies model =
+    AreNormalModel-tabled normal (lifted_structure (choices_of which normal) normal s)
+    (normal_typed normal sound)
+    (tables_lifted which normal s (by normal) (normal_typed normal sound) model)
+
+-- A scheme that keeps models has a finite model of the translation exactly where the problem has one.
+pub finite_models_kept : (which : Scheme) → KeepsModels which → (normal : Normal) →
+    IsSoundNormal normal → Applies which normal →
+    (((t : TypedTables) × AreNormalModel normal t) ↔ HasFiniteModel (translation_by which normal))
+finite_models_kept which keeps normal sound applies = (
+  λ has. (
+    lowered (choices_of which normal) normal has.0,
+    keeps.lowers normal has.0 sound applies has.1,
+  ),
+  λ has. (
+    lifted_tables (choices_of which normal) normal has.0,
+    keeps.lifts normal has.0 sound applies has.1,
+  ),
+)
+
+-- the schemes
+
+-- some normal problem
+nothing : Normal
+nothing = record {
+  signature = record { constructors = []; symbols = [] };
+  formulas = [];
+  fresh = 0;
+}
+
+merged_by_type : (which : Scheme) → IsMerged which → IsMarkedByType which
+merged_by_type scheme.Guards merges = λ normal. refl
+merged_by_type scheme.Tags merges = λ normal. refl
+merged_by_type scheme.GuardsCover merges = λ normal. refl
+merged_by_type scheme.TagsCover merges = λ normal. refl
+merged_by_type scheme.Args merges = λ normal. refl
+merged_by_type scheme.Erase merges = let collapsed = merges nothing in cc
+merged_by_type scheme.GuardsLight merges = let collapsed = merges nothing in cc
+merged_by_type scheme.TagsLight merges = let collapsed = merges nothing in cc
+
+pub merged_schemes_keep : (which : Scheme) → IsMerged which → KeepsModels which
+merged_schemes_keep which merges = record {
+  lowers = lowers_models which merges;
+  lifts = lifts_models which (merged_by_type which merges);
+}
+
+pub guards_keep : KeepsModels scheme.Guards
+guards_keep = merged_schemes_keep scheme.Guards (λ normal. refl)
+
+pub tags_keep : KeepsModels scheme.Tags
+tags_keep = merged_schemes_keep scheme.Tags (λ normal. refl)
+
+pub guards_cover_keep : KeepsModels scheme.GuardsCover
+guards_cover_keep = merged_schemes_keep scheme.GuardsCover (λ normal. refl)
+
+pub tags_cover_keep : KeepsModels scheme.TagsCover
+tags_cover_keep = merged_schemes_keep scheme.TagsCover (λ normal. refl)

@@ -1,0 +1,4 @@
+-- Words of private contracts.
+pub mod Blocks
+pub mod Merging
+pub mod Lifting

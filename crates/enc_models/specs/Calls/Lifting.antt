@@ -1,0 +1,158 @@
+-- Words of private contracts: what the values of a lifted structure rest on.
+use Rattle.std.specs.Prelude.{ℕ, ◌+◌, ◌^◌, ◌<◌, ◌≤◌, ◌≡◌, ◌++◌, Bool, List, [], map, length}
+use Rattle.std.specs.Prelude.{replicate, cond, get_or, slice_index, Option, Some, None}
+use Rattle.tf_core.specs.declared.signature.Symbol.{Symbol}
+use Rattle.tf_core.specs.declared.normal.Normal.{Normal}
+use Rattle.tf_core.specs.declared.signature.Signature.{Signature}
+use Rattle.tf_core.specs.Structures.{Typed, member_of, IsStructure}
+use Rattle.tf_core.specs.Typing.{IsSignature}
+use Rattle.tf_models.specs.Reading.{tables}
+use Rattle.enc_base.specs.Counts.{in_64_bits, most_entries}
+use Rattle.structure_tables.specs.TypedTabled.{tabled}
+use Rattle.structure_tables.specs.EntryCounts.{typed_count}
+use Rattle.fof_models.specs.declared.structure.Structure.{Structure}
+use Rattle.fof_models.specs.Structures.{Untyped, table_of, IsWellFormed}
+use Rattle.enc_marks.specs.declared.mark.Mark.{Mark}
+use Rattle.enc_marks.specs.declared.mark.Mark.TheVariants as mark
+use Rattle.enc_marks.specs.declared.choices.Marking.TheVariants.{ByType}
+use Rattle.enc_marks.specs.declared.choices.Elements.TheVariants.{Image}
+use Rattle.enc_marks.specs.Choices.{Choices, all_types}
+use Rattle.enc_marks.specs.Encoded.{all_numbers, is_present, translation, encoded}
+use Rattle.enc_marks.specs.Occurrence.{count_below}
+use Rattle.enc_laws.specs.Lifted.{Lift, numbers_of, is_element, type_mark, lift_by_type, lifted}
+use Rattle.enc_laws.specs.Ranks.{nth}
+use Rattle.enc_models.specs.declared.marked.Marked.{Marked}
+use Rattle.enc_models.specs.declared.to_typed.Lifted.{Lifted}
+use Rattle.enc_models.specs.declared.to_typed.Lifted.TheVariants as made
+use Rattle.enc_models.specs.LiftedTables.{marked_structure}
+
+-- ---- the marked symbols, by their numbers
+
+-- whether a marked symbol occurs in the translation
+abbrev pub occurs_in : Choices → Normal → ℕ → Bool
+occurs_in c normal = is_present (translation c normal)
+
+-- how many marked symbols there are: symbols, constructors, and the guard or tag
+abbrev pub mark_count : Normal → ℕ
+mark_count normal = length normal.signature.symbols + length normal.signature.constructors + 1
+
+-- the number of what a mark stands for
+abbrev pub mark_number : ℕ → ℕ → Mark → ℕ
+mark_number symbols constructors (mark.Symbol f) = f
+mark_number symbols constructors (mark.Constructor c) = symbols + c
+mark_number symbols constructors mark.Guard = symbols + constructors
+mark_number symbols constructors mark.Tag = symbols + constructors
+mark_number symbols constructors (mark.SortGuard s) = symbols + constructors
+mark_number symbols constructors (mark.SortTag s) = symbols + constructors
+
+-- the number that a marked symbol has among those that occur, if it occurs
+abbrev pub place_in : (ℕ → Bool) → ℕ → Option ℕ
+place_in present m = cond (present m) (Some (count_below m present)) None
+
+-- those of so many marked symbols
+pub record ArePlaces (present : ℕ → Bool) (count : ℕ) (places : List (Option ℕ)) : Type 0 where
+  pub length_is : length places ≡ count
+  pub each : (m : ℕ) → m < count → get_or places m None ≡ place_in present m
+
+-- the table of a marked symbol, or nothing where it doesn't occur
+abbrev pub marked_table : (ℕ → Bool) → Structure → ℕ → List ℕ
+marked_table present s m = cond (present m) (table_of s (count_below m present)) []
+
+-- what an untyped structure is whose tables are found by what their symbols stand for
+pub record Parts : Type 0 where
+  pub choices : Choices
+  pub normal : Normal
+  pub model : Structure
+  pub places : List (Option ℕ)
+
+abbrev pub parts_of : {A : Type 0} → (A → Choices) → Marked A → Parts
+parts_of choices m = record {
+  choices = choices m.choices.now;
+  normal = m.normal.now;
+  model = m.model.now;
+  places = m.places.now;
+}
+
+abbrev pub marked_in : Parts → Untyped
+marked_in m = marked_structure m.choices m.normal m.model
+
+abbrev pub table_in : Parts → ℕ → List ℕ
+table_in m = marked_table (occurs_in m.choices m.normal) m.model
+
+abbrev pub lift_in : Parts → Lift
+lift_in m = lift_by_type m.choices (all_numbers m.normal) (marked_in m)
+
+abbrev pub typed_in : Parts → Typed
+typed_in m =
+    lifted m.choices (all_numbers m.normal) m.normal.signature (occurs_in m.choices m.normal)
+    (marked_in m) (lift_in m)
+
+-- The tables are those of the translation's signature, and each marked symbol is found.
+pub record IsMarked (m : Parts) : Type 0 where
+  pub signature : IsSignature m.normal.signature
+  pub few : mark_count m.normal < 2 ^ 32
+  pub by_type : m.choices.marking ≡ ByType
+  pub kept : (symbol : Symbol) → m.choices.keeps symbol ≡ all_types symbol
+  pub as_they_are : m.choices.elements ≡ Image → ⊥
+  pub well_formed : IsWellFormed (encoded m.choices m.normal).problem.signature m.model
+  pub places : ArePlaces (occurs_in m.choices m.normal) (mark_count m.normal) m.places
+
+-- ---- the numbers that a member picks
+
+-- what the guard or tag gives for a member and a number
+abbrev pub mark_in : Parts → ℕ → ℕ → ℕ
+mark_in m = type_mark (all_numbers m.normal) (marked_in m)
+
+-- whether a number is an element of a member
+abbrev pub picks_in : Parts → ℕ → ℕ → Bool
+picks_in m member number = is_element m.choices.elements m.model.size (mark_in m member) number
+
+-- the numbers below a bound that pass a test, in rising order
+pub record ArePicked (test : ℕ → Bool) (bound : ℕ) (picked : List ℕ) : Type 0 where
+  pub length_is : length picked ≡ count_below bound test
+  pub each : (rank : ℕ) → rank < count_below bound test →
+      slice_index picked rank ≡ nth bound test rank
+
+-- the rank of each number below a bound: how many smaller ones pass
+pub record AreRanks (test : ℕ → Bool) (bound : ℕ) (ranks : List ℕ) : Type 0 where
+  pub length_is : length ranks ≡ bound
+  pub each : (number : ℕ) → number < bound → slice_index ranks number ≡ count_below number test
+
+-- those of so many members
+pub record AreRows (m : Parts) (count : ℕ) (picked ranks : List (List ℕ)) : Type 0 where
+  pub picked_count : length picked ≡ count
+  pub ranks_count : length ranks ≡ count
+  pub each_picked : (member : ℕ) → member < count →
+      ArePicked (picks_in m member) m.model.size (get_or picked member [])
+  pub each_ranks : (member : ℕ) → member < count →
+      AreRanks (picks_in m member) m.model.size (get_or ranks member [])
+
+-- ---- the lifted structure
+
+-- members for a symbol's parameters, and the numbers that elements for its arguments stand for
+abbrev pub numbers_in : Parts → Symbol → List ℕ → List ℕ → List ℕ
+numbers_in m symbol members elements =
+    members
+    ++ numbers_of (lift_in m) m.model.size (map (member_of (typed_in m) members) symbol.arguments)
+    elements
+
+-- each is below the size of the domain
+abbrev pub bounds_in : Parts → Symbol → List ℕ
+bounds_in m symbol = replicate (symbol.parameters + length symbol.arguments) m.model.size
+
+-- the entry of the f-th symbol for them
+abbrev pub entry_in : Parts → ℕ → Symbol → List ℕ → List ℕ → ℕ
+entry_in m f symbol members elements =
+    (marked_in m).symbol_at f (numbers_in m symbol members elements)
+
+-- what its values rest on
+pub record IsLifting (m : Parts) (picked ranks : List (List ℕ)) : Type 0 where
+  pub marked : IsMarked m
+  pub fits : IsStructure m.normal.signature (typed_in m)
+  pub rows : AreRows m m.model.size picked ranks
+
+-- tables are those of a structure, which isn't too large, or its count is given
+abbrev pub IsCounted : Signature → Typed → Lifted → Type 0
+IsCounted g s (made.Made t) = (tables t ≡ tabled g s) × (typed_count g s ≤ most_entries)
+IsCounted g s (made.TooLarge entries) =
+    (most_entries < typed_count g s) × (entries ≡ in_64_bits (typed_count g s))
