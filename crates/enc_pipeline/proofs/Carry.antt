@@ -22,8 +22,8 @@ use Rattle.enc_models.specs.Lowered.{lowered, lowered_entries, IsRefused}
 use Rattle.enc_models.specs.LiftedTables.{lifted_tables, lifted_entries, IsLiftRefused}
 use Rattle.enc_pipeline.specs.Way.{Preparation}
 use Rattle.enc_pipeline.specs.Output.{translated}
-use Rattle.enc_pipeline.specs.Carried.{normal, choices, structure_of}
-use Rattle.enc_pipeline.specs.Carrying.{IsLowered, IsNotLowered, IsLifted, IsNotLifted}
+use Rattle.enc_pipeline.specs.Carried.{written_normal, choices, structure_of}
+use Rattle.enc_pipeline.specs.Calls.Carrying.{IsLowered, IsNotLowered, IsLifted, IsNotLifted}
 use Rattle.enc_pipeline.specs.declared.fault.Fault.TheVariants as fault
 
 -- The parts of a prepared problem, under other names.
@@ -31,7 +31,7 @@ module _ (p : Preparation) (which : Scheme) (n : Normal) (made : Encoded)
     (scheme_is : which ≡ p.how.scheme) (normal_is : n ≡ normal_of p.problem)
     (made_is : made ≡ translated p.how.scheme p.problem) where
   -- what holds of the scheme's choices and the normal problem does so of those of the problem
-  of_parts : (P : Choices → Normal → Type 0) → P (choices_of which n) n → P (choices p) (normal p)
+  of_parts : (P : Choices → Normal → Type 0) → P (choices_of which n) n → P (choices p) (written_normal p)
   of_parts P holds =
       subst (λ m. P (choices_of p.how.scheme m) m) normal_is
       (subst (λ w. P (choices_of w n) n) scheme_is holds)
@@ -56,7 +56,7 @@ module _ (p : Preparation) (which : Scheme) (n : Normal) (made : Encoded)
       by reason other (of_parts (λ c m. IsRefused c m extension reason) refused)
     where
       by : (reason : Refusal) → reason ≢ Memory →
-          IsRefused (choices p) (normal p) extension reason → IsNotLowered p t (fault.Scheme reason)
+          IsRefused (choices p) (written_normal p) extension reason → IsNotLowered p t (fault.Scheme reason)
       by (NotMonomorphic name) other refused = absurd refused
       by (NotMonotone place) other refused = absurd refused
       by (TableTooLarge entries) other refused = (extension, extends, refused.0, refused.1)
@@ -84,7 +84,7 @@ module _ (p : Preparation) (which : Scheme) (n : Normal) (made : Encoded)
       by reason other (of_parts (λ c m. IsLiftRefused c m model reason) refused)
     where
       by : (reason : Refusal) → reason ≢ Memory →
-          IsLiftRefused (choices p) (normal p) model reason →
+          IsLiftRefused (choices p) (written_normal p) model reason →
           IsNotLifted p model (fault.Scheme reason)
       by (NotMonomorphic name) other refused = absurd refused
       by (NotMonotone place) other refused = absurd refused

@@ -1,11 +1,9 @@
 -- The names that are chosen for the translation of a problem whose names can be written.
 use Rattle.std.proofs.Common.{◌≡◌, ◌+◌, ◌-◌, ◌++◌, ℕ, List, [], ◌∷◌, map, length, take, refl, sym, subst, ap, ◌∙◌, arith}
-use Rattle.std.specs.Prelude.{IsTrue}
 use Rattle.std.proofs.lemmas.List.{length-append}
 use Rattle.std.proofs.lemmas.List.FromFn.{length-map-range_with_len}
 use Rattle.std.proofs.Math.Seq.{take-append_seam}
 use Rattle.std.specs.List.{AllByRecursion, range_with_len}
-use Rattle.tptp_words.specs.Text.{AllPass, is_printable}
 use Rattle.tf_core.specs.declared.ty.Ty.{Ty}
 use Rattle.tf_core.specs.declared.signature.Constructor.{Constructor}
 use Rattle.tf_core.specs.declared.signature.Symbol.{Symbol}
@@ -23,34 +21,14 @@ use Rattle.fof_models.specs.declared.problem.FofSymbol.{FofSymbol}
 use Rattle.fof_models.specs.declared.problem.FofFormula.{FofFormula}
 use Rattle.fof_models.specs.Sound as untyped
 use Rattle.fof_text.specs.Names.{chosen_names}
-use Rattle.fof_text.specs.States.{IsWritable, AreNamed}
+use Rattle.enc_base.specs.Names.{IsWritable}
+use Rattle.fof_text.specs.States.{AreNamed}
 use Rattle.fof_text.proofs.Chosen.{names_are_names}
 use Rattle.enc_marks.specs.Choices.{Choices}
 use Rattle.enc_marks.specs.Names.{first_fresh}
 use Rattle.enc_marks.specs.Encoded.{encoded}
 use Rattle.enc_marks.specs.Laws as marks
-use Rattle.enc_marks.specs.Laws.{IsByType, CanBeNamed}
 use Rattle.enc_marks.proofs.WritableNames.{translations_named}
-
--- a name that can be written, as problems of typed text and as translations say it
-
-to_marks : (name : List ℕ) → IsWritable name → marks.IsWritable name
-to_marks [] writable = absurd cc
-to_marks (b ∷ name) writable = record { some = omega arith; bytes = to_bytes (b ∷ name) writable.1 }
-  where
-    to_bytes : (name : List ℕ) → AllPass is_printable name →
-        AllByRecursion (λ b. IsTrue (marks.is_writable_byte b)) name
-    to_bytes [] passed = tt
-    to_bytes (b ∷ name) passed = (passed.0, to_bytes name passed.1)
-
-from_marks : (name : List ℕ) → marks.IsWritable name → IsWritable name
-from_marks [] writable = let some = writable.some in absurd (omega (arith, some))
-from_marks (b ∷ name) writable = (refl, from_bytes (b ∷ name) writable.bytes)
-  where
-    from_bytes : (name : List ℕ) → AllByRecursion (λ b. IsTrue (marks.is_writable_byte b)) name →
-        AllPass is_printable name
-    from_bytes [] passed = tt
-    from_bytes (b ∷ name) passed = (passed.0, from_bytes name passed.1)
 
 -- ---- the normal problem
 
@@ -87,34 +65,26 @@ module _ (problem : Problem) (writable : HasWritableNames problem) where
   pub normal_writable : marks.HasWritableNames normal
   normal_writable = record {
     constructors =
-        subst (AllByRecursion (λ (c : Constructor). marks.IsWritable c.name)) (sym own_constructors)
-        (all-weaker (λ (c : Constructor). IsWritable c.name)
-        (λ (c : Constructor). marks.IsWritable c.name) (λ c. to_marks c.name)
-        problem.signature.constructors writable.constructors);
-    symbols =
-        all-weaker (λ (s : Symbol). IsWritable s.name) (λ (s : Symbol). marks.IsWritable s.name)
-        (λ s. to_marks s.name) problem.signature.symbols writable.symbols;
+        subst (AllByRecursion (λ (c : Constructor). IsWritable c.name)) (sym own_constructors)
+        writable.constructors;
+    symbols = writable.symbols;
     formulas =
-        all-map (λ (f : NormalFormula). marks.IsWritable f.name) (normal_formula types)
+        all-map (λ (f : NormalFormula). IsWritable f.name) (normal_formula types)
         problem.formulas
         (all-weaker (λ (s : Stated). IsWritable s.name)
-        (λ (s : Stated). marks.IsWritable (normal_formula types s).name)
-        (λ s here. subst marks.IsWritable (sym (normal_name types s s.role)) (to_marks s.name here))
+        (λ (s : Stated). IsWritable (normal_formula types s).name)
+        (λ s here. subst IsWritable (sym (normal_name types s s.role)) here)
         problem.formulas writable.formulas);
   }
 
   -- The names that are chosen for a translation: each symbol has one of its own, and they and the
   -- names of the formulas can be written.
-  pub translation_named : (c : Choices) → IsByType c → IsSoundNormal normal →
+  pub translation_named : (c : Choices) → IsSoundNormal normal →
       untyped.IsSound (encoded c normal).problem →
       AreNamed (chosen_names (encoded c normal).problem.signature) (encoded c normal).problem
-  translation_named c by_type sound sound_translation =
-      let named = translations_named c normal by_type sound normal_writable in
+  translation_named c sound sound_translation =
+      let named = translations_named c normal sound normal_writable in
       names_are_names (encoded c normal).problem sound_translation
       (all-map IsWritable (λ (symbol : FofSymbol). symbol.wanted) (encoded c normal).problem.signature
-      (all-weaker (λ (symbol : FofSymbol). marks.IsWritable symbol.wanted)
-      (λ (symbol : FofSymbol). IsWritable symbol.wanted) (λ symbol. from_marks symbol.wanted)
-      (encoded c normal).problem.signature named.symbols))
-      (all-weaker (λ (f : FofFormula). marks.IsWritable f.name)
-      (λ (f : FofFormula). IsWritable f.name) (λ f. from_marks f.name)
-      (encoded c normal).problem.formulas named.formulas)
+      named.symbols)
+      named.formulas

@@ -13,8 +13,8 @@ use Rattle.fof_text.specs.Names.{chosen_names}
 use Rattle.fof_text.specs.States.{TextHasFiniteModel, AreNamed}
 use Rattle.enc_marks.specs.declared.scheme.Scheme.TheVariants.{Guards}
 use Rattle.enc_marks.specs.Schemes.{guards}
-use Rattle.enc_marks.proofs.Sound.{translations_sound}
-use Rattle.enc_marks.proofs.SoundSchemes.{type_schemes}
+use Rattle.enc_marks.proofs.Sound.{translations_well_formed}
+use Rattle.enc_marks.proofs.SoundSchemes.{schemes_fitting}
 use Rattle.enc_guards.proofs.Models.{guards_keep_models}
 use Rattle.enc_pipeline.specs.Output.{output_of, translated}
 use Rattle.enc_pipeline.specs.Causes.{nodes_of}
@@ -26,15 +26,17 @@ module _ (problem : Problem) (sound : IsSound problem) (writable : HasWritableNa
   sound_normal : IsSoundNormal (normal_of problem)
   sound_normal = normal_sound problem sound within
 
-  -- the translation is sound
+  -- the translation is well formed
   pub guarded_sound : untyped.IsSound (translated Guards problem).problem
-  guarded_sound = translations_sound guards (normal_of problem) type_schemes.guards_are sound_normal
+  guarded_sound =
+      translations_well_formed guards (normal_of problem)
+      (schemes_fitting.schemes Guards (normal_of problem) tt) sound_normal
 
   -- its names are chosen
   pub guarded_named : AreNamed (chosen_names (translated Guards problem).problem.signature)
       (translated Guards problem).problem
   guarded_named =
-      translation_named problem writable guards type_schemes.guards_are sound_normal guarded_sound
+      translation_named problem writable guards sound_normal guarded_sound
 
   -- its text has a finite model exactly when the problem has a finite typed model
   pub guarded_headline :

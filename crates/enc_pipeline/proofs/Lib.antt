@@ -11,3 +11,6 @@ pub mod OneTable
 pub mod OneAnswer
 pub mod Numbers
 pub mod Rewritten
+pub mod Built
+pub mod Refusals
+pub mod HandedOn

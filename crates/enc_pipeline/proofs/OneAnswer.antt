@@ -26,7 +26,7 @@ use Rattle.enc_marks.specs.declared.refusal.Refusal.TheVariants as refusal
 use Rattle.enc_models.specs.Lowered.{lowered, lowered_entries}
 use Rattle.enc_models.specs.LiftedTables.{lifted_entries}
 use Rattle.enc_pipeline.specs.Way.{Preparation}
-use Rattle.enc_pipeline.specs.Carried.{normal, translation, names, choices, lifted_model}
+use Rattle.enc_pipeline.specs.Carried.{written_normal, translation, names, choices, lifted_model}
 use Rattle.enc_pipeline.specs.Carried.{IsTableOfModel, IsNoModel, IsCheckedTo}
 use Rattle.enc_pipeline.specs.Carried.{IsTableOfUntypedModel, IsNoUntypedModel}
 use Rattle.enc_pipeline.specs.Carried.{IsLoweredTo, IsUnlowered, IsLoweredTooLarge}
@@ -140,7 +140,7 @@ module _ (p : Preparation) (text : List ℕ) where
       large.is
       ∙ ap (λ entries. fault.Scheme (refusal.TableTooLarge entries))
       (large.too_large.3
-      ∙ ap (λ t. in_64_bits (lowered_entries (choices p) (normal p) t)) same
+      ∙ ap (λ t. in_64_bits (lowered_entries (choices p) (written_normal p) t)) same
       ∙ sym other.too_large.3)
       ∙ sym other.is
 
@@ -158,7 +158,7 @@ module _ (p : Preparation) (text : List ℕ) where
       let same = one_extension done.model also.model done.extension also.extension done.is_table
       also.is_table done.extends also.extends in
       done.output_is
-      ∙ ap (λ t. untyped_text (translation p).signature (names p) (lowered (choices p) (normal p) t))
+      ∙ ap (λ t. untyped_text (translation p).signature (names p) (lowered (choices p) (written_normal p) t))
       same
       ∙ sym also.output_is
 
@@ -169,7 +169,7 @@ module _ (p : Preparation) (text : List ℕ) where
   not_both a output (inr large) done =
       let same = one_extension large.model done.model large.too_large.0 done.extension
       large.is_table done.is_table large.too_large.1 done.extends in
-      let above = subst (λ t. most_entries < lowered_entries (choices p) (normal p) t) same
+      let above = subst (λ t. most_entries < lowered_entries (choices p) (written_normal p) t) same
       large.too_large.2 in
       omega (arith, above, done.within)
 
@@ -269,7 +269,7 @@ module _ (p : Preparation) (text : List ℕ) where
       large.is
       ∙ ap (λ entries. fault.Scheme (refusal.TableTooLarge entries))
       (large.too_large.1
-      ∙ ap (λ s. in_64_bits (lifted_entries (choices p) (normal p) s))
+      ∙ ap (λ s. in_64_bits (lifted_entries (choices p) (written_normal p) s))
       (one_of_two large.model other.model large.is_table other.is_table)
       ∙ sym other.too_large.1)
       ∙ sym other.is
@@ -293,7 +293,7 @@ module _ (p : Preparation) (text : List ℕ) where
   not_both_lifted a output (inl none) done =
       no_untyped_and_model a done.model none done.is_table
   not_both_lifted a output (inr large) done =
-      let above = subst (λ s. most_entries < lifted_entries (choices p) (normal p) s)
+      let above = subst (λ s. most_entries < lifted_entries (choices p) (written_normal p) s)
       (one_of_two large.model done.model large.is_table done.is_table) large.too_large.0 in
       omega (arith, above, done.within)
 

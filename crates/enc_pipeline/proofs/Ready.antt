@@ -12,7 +12,8 @@ use Rattle.tf_nnf.proofs.SoundNormal.{normal_sound}
 use Rattle.fof_models.specs.declared.problem.FofProblem.{FofProblem}
 use Rattle.fof_models.specs.Sound as untyped
 use Rattle.fof_text.specs.Names.{chosen_names}
-use Rattle.fof_text.specs.States.{TextHasFiniteModel, AreNamed, IsWritable}
+use Rattle.enc_base.specs.Names.{IsWritable}
+use Rattle.fof_text.specs.States.{TextHasFiniteModel, AreNamed}
 use Rattle.fof_text.specs.Written.{text_of}
 use Rattle.model_tables.specs.Writable.{IsNamed, AreNames}
 use Rattle.enc_marks.specs.declared.scheme.Scheme.{Scheme}
@@ -22,15 +23,16 @@ use Rattle.enc_pipeline.specs.declared.how.How.{How}
 use Rattle.enc_pipeline.specs.Way.{Preparation}
 use Rattle.enc_pipeline.specs.Ready.{IsPrepared, IsReady}
 use Rattle.enc_pipeline.specs.Output.{first_line, output_of, translated, output}
-use Rattle.enc_pipeline.specs.Carried.{normal, translation, names}
+use Rattle.enc_pipeline.specs.Carried.{written_normal, translation, names}
+use Rattle.enc_pipeline.proofs.Built.{each_built}
 use Rattle.enc_pipeline.proofs.Guarded.{guarded_sound, guarded_named, guarded_headline}
 
 module _ (p : Preparation) (prepared : IsPrepared p) where
-  -- in a way that is built the scheme is guards
+  -- what holds of each scheme that is built
   pub at_guards : (P : Scheme → Type 0) → P Guards → P p.how.scheme
-  at_guards P holds = subst P (sym prepared.built.scheme) holds
+  at_guards P holds = each_built P holds p.how.scheme prepared.built
 
-  pub sound_normal : IsSoundNormal (normal p)
+  pub sound_normal : IsSoundNormal (written_normal p)
   sound_normal = normal_sound p.problem prepared.sound prepared.within
 
   pub sound_translation : untyped.IsSound (translation p)

@@ -31,7 +31,7 @@ use Rattle.enc_models.specs.LiftedTables.{lifted_tables, lifted_structure}
 use Rattle.enc_guards.proofs.Models.{lowered_models_are_models, lifted_models_are_models}
 use Rattle.enc_pipeline.specs.Way.{Preparation}
 use Rattle.enc_pipeline.specs.Ready.{IsPrepared}
-use Rattle.enc_pipeline.specs.Carried.{normal, translation, names, choices, lifted_model}
+use Rattle.enc_pipeline.specs.Carried.{written_normal, translation, names, choices, lifted_model}
 use Rattle.enc_pipeline.specs.Carried.{IsLoweredTo, IsLiftedTo}
 use Rattle.enc_pipeline.specs.Laws.{LoweredTablesAreOfModels, LiftedTablesAreOfModels}
 use Rattle.enc_pipeline.proofs.Ready.{at_guards, sound_normal, are_names, is_named}
@@ -104,9 +104,9 @@ fewer (suc count) (table ∷ entries) =
 module _ (p : Preparation) (table output : List ℕ) (prepared : IsPrepared p)
     (done : IsLoweredTo p table output) where
   abbrev lowered_model : Structure
-  lowered_model = lowered (choices p) (normal p) done.extension
+  lowered_model = lowered (choices p) (written_normal p) done.extension
 
-  normal_model : AreNormalModel (normal p) done.extension
+  normal_model : AreNormalModel (written_normal p) done.extension
   normal_model =
       extension_is_model p.problem (tables done.model) done.extension prepared.sound
       done.is_table.is_model done.extends
@@ -114,15 +114,15 @@ module _ (p : Preparation) (table output : List ℕ) (prepared : IsPrepared p)
   is_model : AreModel (translation p) lowered_model
   is_model =
       at_guards p prepared
-      (λ (which : Scheme). AreModel (encoded (choices_of which (normal p)) (normal p)).problem
-      (lowered (choices_of which (normal p)) (normal p) done.extension))
-      (lowered_models_are_models (normal p) done.extension (sound_normal p prepared) normal_model)
+      (λ (which : Scheme). AreModel (encoded (choices_of which (written_normal p)) (written_normal p)).problem
+      (lowered (choices_of which (written_normal p)) (written_normal p) done.extension))
+      (lowered_models_are_models (written_normal p) done.extension (sound_normal p prepared) normal_model)
 
   within : untyped_tables.structure_entries lowered_model ≤ most_entries
   within =
       subst (λ n. n ≤ most_entries)
       (sym (entries-tabled (translation p).signature
-      (lowered_structure (choices p) (normal p) done.extension))) done.within
+      (lowered_structure (choices p) (written_normal p) done.extension))) done.within
 
   pub lowered_table :
       untyped_tables.IsUntypedTable output (translation p) (names p) lowered_model
@@ -144,30 +144,30 @@ lowered_tables_are_of_models p table output prepared done = record {
 
 module _ (p : Preparation) (table output : List ℕ) (prepared : IsPrepared p)
     (done : IsLiftedTo p table output) where
-  normal_lifted : AreNormalModel (normal p) (lifted_tables (choices p) (normal p) done.model)
+  normal_lifted : AreNormalModel (written_normal p) (lifted_tables (choices p) (written_normal p) done.model)
   normal_lifted =
       at_guards p prepared
-      (λ (which : Scheme). AreModel (encoded (choices_of which (normal p)) (normal p)).problem
+      (λ (which : Scheme). AreModel (encoded (choices_of which (written_normal p)) (written_normal p)).problem
       done.model →
-      AreNormalModel (normal p) (lifted_tables (choices_of which (normal p)) (normal p) done.model))
-      (lifted_models_are_models (normal p) done.model (sound_normal p prepared))
+      AreNormalModel (written_normal p) (lifted_tables (choices_of which (written_normal p)) (written_normal p) done.model))
+      (lifted_models_are_models (written_normal p) done.model (sound_normal p prepared))
       done.is_table.is_model
 
   is_lifted_model : AreTypedModel p.problem (tables (lifted_model p done.model))
   is_lifted_model =
-      reduct_is_model p.problem (lifted_tables (choices p) (normal p) done.model) prepared.sound
+      reduct_is_model p.problem (lifted_tables (choices p) (written_normal p) done.model) prepared.sound
       normal_lifted
 
   abbrev source : Typed
-  source = lifted_structure (choices p) (normal p) done.model
+  source = lifted_structure (choices p) (written_normal p) done.model
 
   abbrev signature : Signature
-  signature = (normal p).signature
+  signature = (written_normal p).signature
 
   within_lifted : typed.structure_entries (lifted_model p done.model) ≤ most_entries
   within_lifted =
       let own = fewer
-      (length (constructor_tables source signature.constructors 0) - (normal p).fresh)
+      (length (constructor_tables source signature.constructors 0) - (written_normal p).fresh)
       (constructor_tables source signature.constructors 0) in
       omega (
         arith,

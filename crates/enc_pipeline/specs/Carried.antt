@@ -31,11 +31,15 @@ use Rattle.enc_pipeline.specs.declared.fault.Fault.TheVariants as fault
 
 -- ---- what belongs to a prepared problem
 
--- the normal problem, its translation, the names of the translation's symbols, and the choices of the
--- scheme by which it is made
+-- The normal problem to which a model is extended, and the one that is translated; without
+-- instances they are the same. The translation, the names of its symbols, and the choices of the
+-- scheme by which it is made.
 
-abbrev pub normal : Preparation → Normal
-normal p = normal_of p.problem
+abbrev pub source_normal : Preparation → Normal
+source_normal p = normal_of p.problem
+
+abbrev pub written_normal : Preparation → Normal
+written_normal p = normal_of p.problem
 
 abbrev pub translation : Preparation → FofProblem
 translation p = (translated p.how.scheme p.problem).problem
@@ -44,18 +48,20 @@ abbrev pub names : Preparation → List (List ℕ)
 names p = chosen_names (translation p).signature
 
 abbrev pub choices : Preparation → Choices
-choices p = choices_of p.how.scheme (normal p)
+choices p = choices_of p.how.scheme (written_normal p)
 
 -- ---- models by tables
 
 -- the text is a typed table of this model of the problem, which is within the limit on entries
-pub record IsTableOfModel (text : List ℕ) (problem : Problem) (model : TypedStructure) : Type 0 where
+pub record IsTableOfModel (text : List ℕ) (problem : Problem) (model : TypedStructure)
+    : Type 0 where
   pub is_table : typed.IsTypedTable text problem.signature model
   pub within : typed.structure_entries model ≤ most_entries
   pub is_model : AreModel problem (tables model)
 
 -- the text is an untyped table of this model of the translation, which is within the limit
-pub record IsTableOfUntypedModel (text : List ℕ) (p : Preparation) (model : Structure) : Type 0 where
+pub record IsTableOfUntypedModel (text : List ℕ) (p : Preparation) (model : Structure)
+    : Type 0 where
   pub is_table : untyped_tables.IsUntypedTable text (translation p) (names p) model
   pub within : untyped_tables.structure_entries model ≤ most_entries
   pub is_model : untyped_models.AreModel (translation p) model
@@ -81,7 +87,8 @@ IsNoUntypedModel p text (fault.NotModel formula) =
     (structure : Structure)
     × untyped_tables.IsUntypedTable text (translation p) (names p) structure
     × (untyped_tables.structure_entries structure ≤ most_entries)
-    × untyped_models.IsFirstFalse (untyped_structures.reading structure) (translation p).formulas formula
+    × untyped_models.IsFirstFalse (untyped_structures.reading structure) (translation p).formulas
+    formula
 IsNoUntypedModel p text _ = ⊥
 
 -- what is written where a table is that of a model
@@ -103,18 +110,19 @@ pub record IsLoweredTo (p : Preparation) (table output : List ℕ) : Type 0 wher
   pub is_table : IsTableOfModel table p.problem model
   pub extension : TypedTables
   pub extends : IsExtension p.problem (tables model) extension
-  pub within : lowered_entries (choices p) (normal p) extension ≤ most_entries
+  pub within : lowered_entries (choices p) (written_normal p) extension ≤ most_entries
   pub output_is :
       output
-      ≡ untyped_text (translation p).signature (names p) (lowered (choices p) (normal p) extension)
+      ≡ untyped_text (translation p).signature (names p)
+      (lowered (choices p) (written_normal p) extension)
 
 -- the lowered structure of the extension of a model has too many entries, of which the refusal says
 -- how many
 abbrev pub IsLoweredTooLarge : Preparation → TypedTables → ℕ → Type 0
 IsLoweredTooLarge p t entries =
     (extension : TypedTables) × IsExtension p.problem t extension
-    × (most_entries < lowered_entries (choices p) (normal p) extension)
-    × (entries ≡ in_64_bits (lowered_entries (choices p) (normal p) extension))
+    × (most_entries < lowered_entries (choices p) (written_normal p) extension)
+    × (entries ≡ in_64_bits (lowered_entries (choices p) (written_normal p) extension))
 
 -- why nothing is: the text is no table of a model, or the lowered structure has too many entries
 abbrev pub IsUnlowered : Preparation → List ℕ → Fault → Type 0
@@ -135,21 +143,22 @@ structure_of t = record { sizes = t.sizes; constructors = t.constructors; symbol
 -- tables of the fresh constructors
 abbrev pub lifted_model : Preparation → Structure → TypedStructure
 lifted_model p model =
-    structure_of (without_fresh (normal p) (lifted_tables (choices p) (normal p) model))
+    structure_of
+    (without_fresh (source_normal p) (lifted_tables (choices p) (written_normal p) model))
 
 -- the output is written for an untyped table: the typed table of the model that its model gives
 pub record IsLiftedTo (p : Preparation) (table output : List ℕ) : Type 0 where
   pub model : Structure
   pub is_table : IsTableOfUntypedModel table p model
-  pub within : lifted_entries (choices p) (normal p) model ≤ most_entries
+  pub within : lifted_entries (choices p) (written_normal p) model ≤ most_entries
   pub output_is : output ≡ typed_text p.problem.signature (lifted_model p model)
 
 -- the lifted structure of a model, the tables of the fresh constructors counted in, has too many
 -- entries, of which the refusal says how many
 abbrev pub IsLiftedTooLarge : Preparation → Structure → ℕ → Type 0
 IsLiftedTooLarge p model entries =
-    (most_entries < lifted_entries (choices p) (normal p) model)
-    × (entries ≡ in_64_bits (lifted_entries (choices p) (normal p) model))
+    (most_entries < lifted_entries (choices p) (written_normal p) model)
+    × (entries ≡ in_64_bits (lifted_entries (choices p) (written_normal p) model))
 
 -- why nothing is: the text is no table of a model, or the lifted structure has too many entries
 abbrev pub IsUnlifted : Preparation → List ℕ → Fault → Type 0

@@ -1,9 +1,11 @@
 -- Why a problem can't be read or prepared. Want of memory may come anywhere.
-use Rattle.std.specs.Prelude.{ℕ, ◌<◌, ◌≤◌, ◌≡◌, List, ◌∷◌, Ok, Err}
+use Rattle.std.specs.Prelude.{ℕ, ◌<◌, ◌≤◌, ◌≡◌, ◌≢◌, List, ◌∷◌, Ok, Err}
 use Rattle.enc_base.specs.Counts.{in_64_bits}
 use Rattle.tptp_syntax.specs.declared.entry.File.{File}
+use Rattle.tptp_syntax.specs.declared.error.ReadError.TheVariants as reading
 use Rattle.tptp_syntax.specs.Files.{Verdict}
 use Rattle.tf_check.specs.declared.error.TypeError.{TypeError}
+use Rattle.tf_check.specs.declared.error.TypeError.TheVariants as typing
 use Rattle.tf_check.specs.Faults.{faults}
 use Rattle.tf_core.specs.declared.problem.Problem.{Problem}
 use Rattle.tf_nnf.specs.Nodes.{normal_nodes}
@@ -14,23 +16,20 @@ use Rattle.enc_marks.specs.declared.refusal.Refusal.TheVariants as refusal
 use Rattle.enc_marks.specs.Applies.{IsRefused}
 use Rattle.enc_pipeline.specs.declared.how.How.{How}
 use Rattle.enc_pipeline.specs.declared.fault.Fault.{Fault}
-use Rattle.enc_pipeline.specs.declared.fault.Fault.TheVariants.{Reading, Typing, TooLarge, Scheme, Memory}
+use Rattle.enc_pipeline.specs.declared.fault.Fault.TheVariants.{Reading, Typing, TooLarge, Scheme}
+use Rattle.enc_pipeline.specs.declared.fault.Fault.TheVariants.{Memory}
 
 -- the fault is the first of a file
 abbrev pub IsFirstFault : File → TypeError → Type 0
 IsFirstFault file reason = (more : List TypeError) × (faults file ≡ reason ∷ more)
 
--- why a file has no problem
-abbrev pub IsIllTyped : File → Fault → Type 0
-IsIllTyped file (Typing reason) = IsFirstFault file reason
-IsIllTyped file Memory = Unit {0}
-IsIllTyped file _ = ⊥
-
--- why a text has no problem: it is no file within the limits, or the file isn't well typed
+-- why a text has no problem: it is no file within the limits, or the file isn't well typed; want of
+-- memory never stands inside a reason
 abbrev pub IsUnreadable : List ℕ → Fault → Type 0
-IsUnreadable text (Reading reason) = Verdict text (Err reason)
+IsUnreadable text (Reading reason) = (reason ≢ reading.Memory) × Verdict text (Err reason)
 IsUnreadable text (Typing reason) =
-    (file : File) × Verdict text (Ok file) × IsFirstFault file reason
+    (reason ≢ typing.Memory)
+    × ((file : File) × Verdict text (Ok file) × IsFirstFault file reason)
 IsUnreadable text Memory = Unit {0}
 IsUnreadable text _ = ⊥
 
@@ -45,8 +44,8 @@ IsSchemeRefusal (refusal.NotMonotone place) = Unit {0}
 IsSchemeRefusal (refusal.TableTooLarge entries) = ⊥
 IsSchemeRefusal refusal.Memory = ⊥
 
--- why a problem can't be encoded in a way: its normal problem has too many nodes, or else the scheme
--- doesn't apply
+-- why a problem can't be encoded in a way: its normal problem has too many nodes, or else the
+-- scheme doesn't apply
 abbrev pub IsUnprepared : Problem → How → Fault → Type 0
 IsUnprepared problem how (TooLarge nodes) =
     (most_nodes < nodes_of problem) × (nodes ≡ in_64_bits (nodes_of problem))

@@ -4,7 +4,7 @@ use Rattle.tf_core.specs.declared.problem.Problem.{Problem}
 use Rattle.enc_models.specs.Lowered.{lowered}
 use Rattle.enc_pipeline.specs.Way.{Preparation}
 use Rattle.enc_pipeline.specs.Ready.{IsPrepared}
-use Rattle.enc_pipeline.specs.Carried.{normal, choices, lifted_model}
+use Rattle.enc_pipeline.specs.Carried.{written_normal, choices, lifted_model}
 use Rattle.enc_pipeline.specs.Carried.{IsTableOfModel, IsTableOfUntypedModel}
 use Rattle.enc_pipeline.specs.Carried.{IsNoModel, IsCheckedTo, IsUnlowered, IsLoweredTo}
 use Rattle.enc_pipeline.specs.Carried.{IsUnlifted, IsLiftedTo}
@@ -39,10 +39,10 @@ LiftingHasOneAnswer = (p : Preparation) (table : List ℕ) →
 abbrev pub LoweredTablesAreOfModels : Type 0
 LoweredTablesAreOfModels = (p : Preparation) (table output : List ℕ) → IsPrepared p →
     (done : IsLoweredTo p table output) →
-    IsTableOfUntypedModel output p (lowered (choices p) (normal p) done.extension)
+    IsTableOfUntypedModel output p (lowered (choices p) (written_normal p) done.extension)
 
--- What is written for an untyped table that is lifted is a typed table of a model of the problem: the
--- lifted structure without the fresh constructors.
+-- What is written for an untyped table that is lifted is a typed table of a model of the problem:
+-- the lifted structure without the fresh constructors.
 abbrev pub LiftedTablesAreOfModels : Type 0
 LiftedTablesAreOfModels = (p : Preparation) (table output : List ℕ) → IsPrepared p →
     (done : IsLiftedTo p table output) → IsTableOfModel output p.problem (lifted_model p done.model)

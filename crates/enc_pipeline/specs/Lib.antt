@@ -5,6 +5,8 @@ pub mod Causes
 pub mod Distinct
 pub mod Ready
 pub mod Carried
-pub mod Carrying
 pub mod Stopped
 pub mod Laws
+pub mod RefusalNumbers
+pub mod Faults
+pub mod Calls

@@ -1,6 +1,6 @@
 -- What holds of a prepared problem: it was made in a way that is built, and all that was made of it
 -- is determined by the problem and the way.
-use Rattle.std.specs.Prelude.{ℕ, ◌≤◌, ◌≡◌, List}
+use Rattle.std.specs.Prelude.{ℕ, ◌≤◌, ◌≡◌, true, List}
 use Rattle.tf_check.specs.Writable.{HasWritableNames}
 use Rattle.tf_core.specs.declared.problem.Problem.{Problem}
 use Rattle.tf_core.specs.declared.normal.Normal.{Normal}
@@ -10,19 +10,19 @@ use Rattle.tf_nnf.specs.Refusal.{most_nodes}
 use Rattle.fof_text.specs.Names.{chosen_names}
 use Rattle.enc_marks.specs.declared.encoded.Encoded.{Encoded}
 use Rattle.enc_pipeline.specs.declared.how.How.{How}
-use Rattle.enc_pipeline.specs.Way.{Preparation, IsBuilt}
+use Rattle.enc_pipeline.specs.Way.{Preparation, is_built}
 use Rattle.enc_pipeline.specs.Output.{translated}
 use Rattle.enc_pipeline.specs.Causes.{nodes_of}
 use Rattle.enc_pipeline.specs.Distinct.{HasDistinctNames}
 
 -- The problem can be encoded: it is sound, its names can be written and tell its symbols apart, and
--- its normal problem is within the limit. The way is built.
+-- its normal problem is within the limit. The scheme is built.
 pub record IsPrepared (p : Preparation) : Type 0 where
   pub sound : IsSound p.problem
   pub named : HasWritableNames p.problem
   pub distinct : HasDistinctNames p.problem
   pub within : nodes_of p.problem ≤ most_nodes
-  pub built : IsBuilt p.how
+  pub built : is_built p.how.scheme ≡ true
 
 pub record IsReady (problem : Problem) (how : How) (normal : Normal) (made : Encoded)
     (names : List (List ℕ)) : Type 0 where

@@ -1,6 +1,7 @@
 -- A problem and the way in which it is to be encoded.
-use Rattle.std.specs.Prelude.{◌≤◌, ◌≡◌, false}
+use Rattle.std.specs.Prelude.{◌≤◌, ◌≡◌, Bool, true, false}
 use Rattle.tf_core.specs.declared.problem.Problem.{Problem}
+use Rattle.enc_marks.specs.declared.scheme.Scheme.{Scheme}
 use Rattle.enc_marks.specs.declared.scheme.Scheme.TheVariants.{Guards}
 use Rattle.enc_pipeline.specs.declared.how.How.{How}
 
@@ -15,7 +16,16 @@ pub record IsInRange (how : How) : Type 0 where
   pub some : 1 ≤ how.cap
   pub cap : how.cap ≤ 100000
 
--- the ways that are built: guards, without instances
+-- the way by a scheme where nothing else is asked for, which is without instances
+abbrev pub plain_way : Scheme → How
+plain_way which = record { scheme = which; mono = false; rounds = 3; cap = 2000 }
+
+-- whether a scheme is built: `guards` alone is yet
+abbrev pub is_built : Scheme → Bool
+is_built Guards = true
+is_built _ = false
+
+-- the ways that are built: by a scheme that is, without instances
 pub record IsBuilt (how : How) : Type 0 where
-  pub scheme : how.scheme ≡ Guards
+  pub scheme : is_built how.scheme ≡ true
   pub mono : how.mono ≡ false

@@ -43,8 +43,11 @@ fn first_false(
     requires sound { IsSound problem.now }
     requires well_formed { IsWellFormed problem.now.signature (tables structure.now) }
     requires few { length structure.now.sizes < 2 ^ 32 }
-    ensures exact { IfOk result (λ first. (first ≡ None) ↔ AreModel problem.now (tables structure.now)) }
-    ensures least { IfOk result (λ first. IfSome first (IsFirstFalse (reading problem.now.signature (tables structure.now)) problem.now.formulas)) }
+    ensures exact { IfOk result (λ first.
+        (first ≡ None) ↔ AreModel problem.now (tables structure.now)) }
+    ensures least { IfOk result (λ first. IfSome first
+        (IsFirstFalse (reading problem.now.signature (tables structure.now))
+        problem.now.formulas)) }
     ensures cause { IfErr result (λ fault. fault ≡ Fault.Memory) }
 {
     match Env::new(alloc, problem.most_types(), problem.most_terms()) {
@@ -86,7 +89,8 @@ pub fn check_file<O: Sink>(
     requires sound { IsSound problem.now }
     requires distinct { HasDistinctNames problem.now }
     ensures exact { OnOk result (Appends (O.bytes out.old) (O.bytes out.new) model_line) }
-    ensures model { OnOk result ((model : TypedStructure) × IsTableOfModel table.now problem.now model) }
+    ensures model { OnOk result
+        ((model : TypedStructure) × IsTableOfModel table.now problem.now model) }
     ensures stopped { IfErr result (IsStopped (IsNoModel problem.now table.now)
         (IsCheckedTo problem.now table.now)
         (O.bytes out.old) (O.bytes out.new)

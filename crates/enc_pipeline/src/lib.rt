@@ -22,6 +22,7 @@ pub use laws::{
 };
 pub use lifting::lift_file;
 pub use lowering::lower_file;
-pub use output::{first_line, write_output};
+pub use output::{scheme_name, write_output};
 pub use prepared::{Prepared, encode_file, lifts, prepare, written_formulas};
 pub use reading::read_problem;
+pub use schemes::is_built;

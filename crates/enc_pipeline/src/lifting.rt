@@ -6,7 +6,7 @@ ghost use Rattle.fof_models.specs.Structures.{reading, IsWellFormed};
 ghost use Rattle.model_tables.specs.Untyped.{IsUntypedTable, structure_entries};
 ghost use Rattle.enc_pipeline.specs.Carried.{translation, names};
 ghost use Rattle.enc_pipeline.specs.Carried.{IsTableOfUntypedModel, IsNoUntypedModel, IsLiftedTo, IsUnlifted};
-ghost use Rattle.enc_pipeline.specs.Carrying.{IsLifted, IsNotLifted, IsLiftedFrom};
+ghost use Rattle.enc_pipeline.specs.Calls.Carrying.{IsLifted, IsNotLifted, IsLiftedFrom};
 ghost use Rattle.enc_pipeline.specs.Stopped.{IsStopped, UnlessMemory};
 
 use crate::schemes::lift;
@@ -22,7 +22,8 @@ use tf_nnf::from_normal;
 
 /// The structure of which the text is an untyped table.
 fn structure_of(alloc: Global, prepared: &Prepared, table: &[u8]) -> Result<Structure, Fault>
-    ensures exact { IfOk result (IsUntypedTable table.now (translation prepared.now) (names prepared.now)) }
+    ensures exact { IfOk result
+        (IsUntypedTable table.now (translation prepared.now) (names prepared.now)) }
     ensures within { IfOk result (λ structure. structure_entries structure ≤ most_entries) }
     ensures refused { IfErr result (UnlessMemory (IsNoUntypedModel prepared.now table.now)) }
 {
@@ -40,8 +41,10 @@ fn first_false(
     structure: &Structure,
 ) -> Result<Option<usize>, Fault>
     requires well_formed { IsWellFormed (translation prepared.now).signature structure.now }
-    ensures exact { IfOk result (λ first. (first ≡ None) ↔ AreModel (translation prepared.now) structure.now) }
-    ensures least { IfOk result (λ first. IfSome first (IsFirstFalse (reading structure.now) (translation prepared.now).formulas)) }
+    ensures exact { IfOk result (λ first.
+        (first ≡ None) ↔ AreModel (translation prepared.now) structure.now) }
+    ensures least { IfOk result (λ first. IfSome first
+        (IsFirstFalse (reading structure.now) (translation prepared.now).formulas)) }
     ensures cause { IfErr result (λ fault. fault ≡ Fault.Memory) }
 {
     let encoded = prepared.encoded();

@@ -3,8 +3,8 @@ ghost use Rattle.std.specs.Io.KnownBytes.{Appends};
 ghost use Rattle.tf_core.specs.TypedTables.{AreModel, AreNormalModel};
 ghost use Rattle.tf_models.specs.Reading.{tables};
 ghost use Rattle.tf_nnf.specs.Extension.{IsExtension};
-ghost use Rattle.enc_pipeline.specs.Carried.{normal, IsLoweredTo, IsUnlowered};
-ghost use Rattle.enc_pipeline.specs.Carrying.{IsLowered, IsNotLowered, IsLoweredFrom};
+ghost use Rattle.enc_pipeline.specs.Carried.{source_normal, IsLoweredTo, IsUnlowered};
+ghost use Rattle.enc_pipeline.specs.Calls.Carrying.{IsLowered, IsNotLowered, IsLoweredFrom};
 ghost use Rattle.enc_pipeline.specs.Stopped.{IsStopped, UnlessMemory};
 
 use crate::checking::typed_model;
@@ -27,8 +27,10 @@ fn extended(
 ) -> Result<TypedStructure, Fault>
     requires model { AreModel prepared.now.problem (tables model) }
     requires few { length model.sizes < 2 ^ 32 }
-    ensures exact { IfOk result (λ extension. IsExtension prepared.now.problem (tables model) (tables extension)) }
-    ensures model { IfOk result (λ extension. AreNormalModel (normal prepared.now) (tables extension)) }
+    ensures exact { IfOk result (λ extension.
+        IsExtension prepared.now.problem (tables model) (tables extension)) }
+    ensures model { IfOk result (λ extension.
+        AreNormalModel (source_normal prepared.now) (tables extension)) }
     ensures few { IfOk result (λ extension. length extension.sizes < 2 ^ 32) }
     ensures cause { IfErr result (λ fault. fault ≡ Fault.Memory) }
 {
@@ -71,8 +73,8 @@ fn lowered_from(alloc: Global, prepared: &Prepared, table: &[u8]) -> Result<Stru
     }
 }
 
-/// Writes the untyped table of the model of the translation that a model of the problem gives, where
-/// the text is a typed table of it.
+/// Writes the untyped table of the model of the translation that a model of the problem gives,
+/// where the text is a typed table of it.
 pub fn lower_file<O: Sink>(
     alloc: Global,
     prepared: &Prepared,

@@ -1,6 +1,7 @@
 ghost use Rattle.std.specs.Prelude.{◌≡◌, ◌≤◌, ◌++◌, OnOk, OnErr};
 ghost use Rattle.std.specs.Io.KnownBytes.{Appends};
 ghost use Rattle.enc_base.specs.Counts.{Rose};
+ghost use Rattle.enc_base.specs.Pending.{Puts};
 ghost use Rattle.enc_base.specs.Sink.{AppendsPrefix};
 ghost use Rattle.fof_models.specs.Sound.{IsSound};
 ghost use Rattle.fof_text.specs.States.{AreNamed};
@@ -12,21 +13,30 @@ use enc_marks::Scheme;
 use fof_models::FofProblem;
 use fof_text::{Names, put_problem};
 
-/// The first line of an output: a comment that names the scheme.
-#[tactic(auto, unfolding(crate::specs::Output::first_line))]
-pub fn first_line(which: &Scheme) -> &'static [u8]
-    ensures { result.now ≡ specs.first_line which.now }
+/// A scheme's name on the command line and in the output.
+pub fn scheme_name(which: &Scheme) -> &'static str
+    ensures { result.now ≡ specs.scheme_name which.now }
 {
     match which {
-        Scheme::Guards => b"% tfenc guards complete\n",
-        Scheme::Tags => b"% tfenc tags complete\n",
-        Scheme::GuardsCover => b"% tfenc guards_cover complete\n",
-        Scheme::TagsCover => b"% tfenc tags_cover complete\n",
-        Scheme::Args => b"% tfenc args complete\n",
-        Scheme::Erase => b"% tfenc erase complete\n",
-        Scheme::GuardsLight => b"% tfenc guards_light complete\n",
-        Scheme::TagsLight => b"% tfenc tags_light complete\n",
+        Scheme::Guards => "guards",
+        Scheme::Tags => "tags",
+        Scheme::GuardsCover => "guards_cover",
+        Scheme::TagsCover => "tags_cover",
+        Scheme::Args => "args",
+        Scheme::Erase => "erase",
+        Scheme::GuardsLight => "guards_light",
+        Scheme::TagsLight => "tags_light",
     }
+}
+
+// Puts the first line: a comment that names the scheme.
+fn put_first_line<O: Sink>(which: &Scheme, pending: &mut Pending, out: &mut O)
+    ensures { Puts O.bytes O.faults pending.old pending.new out.old out.new
+        (specs.first_line which.now) }
+{
+    pending.put(b"% tfenc ", out);
+    pending.put(scheme_name(which).as_bytes(), out);
+    pending.put(b" complete\n", out);
 }
 
 /// Writes the first line, and then the text of the problem under these names.
@@ -45,7 +55,7 @@ pub fn write_output<O: Sink>(
     ensures cause { OnErr result (Rose (O.faults out.old) (O.faults out.new)) }
 {
     let mut pending = Pending::new();
-    pending.put(first_line(which), out);
+    put_first_line(which, &mut pending, out);
     put_problem(problem, names, &mut pending, out);
     pending.finish(out)
 }

@@ -3,23 +3,21 @@ ghost use Rattle.std.specs.Io.KnownBytes.{Appends};
 ghost use Rattle.enc_base.specs.Counts.{Rose};
 ghost use Rattle.enc_base.specs.Sink.{AppendsPrefix};
 ghost use Rattle.tf_check.specs.Writable.{HasWritableNames};
-ghost use Rattle.tf_core.specs.Sound.{IsSound, IsSoundNormal};
+ghost use Rattle.tf_core.specs.Sound.{IsSound};
 ghost use Rattle.tf_core.specs.TypedTables.{HasFiniteModel};
 ghost use Rattle.tf_nnf.specs.NormalForm.{normal_of};
 ghost use Rattle.tf_nnf.specs.Refusal.{most_nodes};
 ghost use Rattle.fof_text.specs.States.{TextHasFiniteModel};
 ghost use Rattle.enc_marks.specs.Applies.{Applies};
-ghost use Rattle.enc_marks.specs.Encoded as marks;
-ghost use Rattle.enc_marks.specs.Schemes.{choices_of};
 ghost use Rattle.enc_pipeline.specs.Way.{Preparation, IsInRange, IsBuilt};
 ghost use Rattle.enc_pipeline.specs.Output as specs;
 ghost use Rattle.enc_pipeline.specs.Causes.{nodes_of, IsUnprepared};
 ghost use Rattle.enc_pipeline.specs.Carried as carried;
 ghost use Rattle.enc_pipeline.specs.Distinct.{HasDistinctNames};
 ghost use Rattle.enc_pipeline.specs.Ready.{IsPrepared};
-ghost use Rattle.enc_pipeline.specs.declared.how.How.{How};
 
 use crate::output::write_output;
+use crate::schemes::encode;
 use crate::{Fault, How};
 use enc_base::{Failed, Sink};
 use enc_marks::{Encoded, Scheme};
@@ -27,7 +25,7 @@ use fof_text::Names;
 use std::alloc::Global;
 use std::marker::Model;
 use tf_core::{Normal, Problem};
-use tf_nnf::{NormalError, normalise};
+use tf_nnf::normalise;
 
 /// A problem that is ready to be encoded, with all that was made of it.
 #[derive(Debug, Drop)]
@@ -97,41 +95,12 @@ impl Prepared {
     }
 }
 
-// the normal problem
-fn normalised(alloc: Global, problem: &Problem) -> Result<Normal, Fault>
-    requires sound { IsSound problem.now }
-    ensures exact { IfOk result (λ normal. normal ≡ normal_of problem.now) }
-    ensures within { IfOk result (λ normal. nodes_of problem.now ≤ most_nodes) }
-    ensures sound { IfOk result IsSoundNormal }
-    ensures cause { (how : How) → IfErr result (IsUnprepared problem.now how) }
-{
-    match normalise(alloc, problem) {
-        Ok(normal) => Ok(normal),
-        Err(NormalError::Memory) => Err(Fault::Memory),
-        Err(NormalError::TooLarge { nodes }) => Err(Fault::TooLarge { nodes }),
-    }
-}
-
-// the translation of a normal problem in a way that is built
-fn encoded(alloc: Global, how: &How, normal: &Normal) -> Result<Encoded, Fault>
-    requires sound { IsSoundNormal normal.now }
-    requires built { IsBuilt how.now }
-    ensures exact { IfOk result (λ made. made ≡ marks.encoded (choices_of how.now.scheme normal.now) normal.now) }
-    ensures applies { IfOk result (λ made. Applies how.now.scheme normal.now) }
-    ensures cause { IfErr result (λ fault. fault ≡ Fault.Memory) }
-{
-    match enc_guards::encode(alloc, Scheme::Guards, normal) {
-        Ok(made) => Ok(made),
-        Err(_) => Err(Fault::Memory),
-    }
-}
-
 /// Makes all that encoding a problem in a way needs. The problem is taken, and dropped where it is
 /// refused.
 ///
-/// The problem is to be sound, and its names such as can be written and tell its symbols apart, which
-/// holds of each problem that is read; the way is to be built, and its numbers those that the command
-/// line takes.
+/// The problem is to be sound, and its names such as can be written and tell its symbols apart,
+/// which holds of each problem that is read; the way is to be built, and its numbers those that the
+/// command line takes.
 pub fn prepare(alloc: Global, problem: Problem, how: How) -> Result<Prepared, Fault>
     requires sound { IsSound problem }
     requires named { HasWritableNames problem }
@@ -143,31 +112,24 @@ pub fn prepare(alloc: Global, problem: Problem, how: How) -> Result<Prepared, Fa
     ensures applies { IfOk result (λ prepared. Applies how.scheme (normal_of problem)) }
     ensures refused { IfErr result (IsUnprepared problem how) }
 {
-    let normal = match normalised(alloc, &problem) {
-        Ok(normal) => normal,
-        Err(fault) => return Err(fault),
-    };
-    let encoded = match encoded(alloc, &how, &normal) {
-        Ok(encoded) => encoded,
-        Err(fault) => return Err(fault),
-    };
-    match Names::choose(alloc, encoded.problem.signature.as_slice()) {
-        Ok(names) => Ok(Prepared {
-            problem,
-            how,
-            normal,
-            encoded,
-            names,
-        }),
-        Err(_) => Err(Fault::Memory),
-    }
+    let normal = normalise(alloc, &problem)?;
+    let encoded = encode(alloc, &how.scheme, &normal)?;
+    let names = Names::choose(alloc, encoded.problem.signature.as_slice())?;
+    Ok(Prepared {
+        problem,
+        how,
+        normal,
+        encoded,
+        names,
+    })
 }
 
-/// Structures over instances can't be carried back to the problem: the ways of `--mono` are refused.
-/// Takes no memory.
+/// Structures over instances can't be carried back to the problem: the ways of `--mono` are
+/// refused. Takes no memory.
 pub fn lifts(prepared: &Prepared) -> Result<(), Fault>
     ensures taken { OnOk result (prepared.now.how.mono ≡ false) }
-    ensures refused { IfErr result (λ fault. (fault ≡ Fault.Incomplete) × (prepared.now.how.mono ≡ true)) }
+    ensures refused { IfErr result (λ fault.
+        (fault ≡ Fault.Incomplete) × (prepared.now.how.mono ≡ true)) }
 {
     if prepared.how.mono {
         Err(Fault::Incomplete)
@@ -178,17 +140,21 @@ pub fn lifts(prepared: &Prepared) -> Result<(), Fault>
 
 /// How many formulas the translation has.
 pub fn written_formulas(prepared: &Prepared) -> usize
-    ensures { result ≡ length (specs.translated prepared.now.how.scheme prepared.now.problem).problem.formulas }
+    ensures { result ≡ length (carried.translation prepared.now).formulas }
 {
     prepared.encoded.problem.formulas.as_slice().len()
 }
 
 /// Writes the translation: a first line that names the scheme, and then the untyped problem.
 pub fn encode_file<O: Sink>(prepared: &Prepared, out: &mut O) -> Result<(), Fault>
-    ensures exact { OnOk result (Appends (O.bytes out.old) (O.bytes out.new) (specs.output prepared.now)) }
-    ensures headline { TextHasFiniteModel (specs.output prepared.now) ↔ HasFiniteModel prepared.now.problem }
-    ensures within { OnErr result (AppendsPrefix (O.bytes out.old) (O.bytes out.new) (specs.output prepared.now)) }
-    ensures cause { IfErr result (λ fault. (fault ≡ Fault.Write) × Rose (O.faults out.old) (O.faults out.new)) }
+    ensures exact { OnOk result
+        (Appends (O.bytes out.old) (O.bytes out.new) (specs.output prepared.now)) }
+    ensures headline { TextHasFiniteModel (specs.output prepared.now)
+        ↔ HasFiniteModel prepared.now.problem }
+    ensures within { OnErr result
+        (AppendsPrefix (O.bytes out.old) (O.bytes out.new) (specs.output prepared.now)) }
+    ensures cause { IfErr result (λ fault.
+        (fault ≡ Fault.Write) × Rose (O.faults out.old) (O.faults out.new)) }
 {
     match write_output(
         &prepared.how.scheme,

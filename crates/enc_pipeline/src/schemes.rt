@@ -1,21 +1,49 @@
-//! The schemes, each by its own crate.
+//! The schemes that are built, each by its own crate. A new one is an arm of each match here.
 
-ghost use Rattle.std.specs.Prelude.{◌≡◌, ◌≤◌, ◌<◌, ◌^◌, length, IfOk, IfErr};
+ghost use Rattle.std.specs.Prelude.{◌≡◌, ◌≤◌, ◌<◌, ◌^◌, true, length, IfOk, IfErr};
 ghost use Rattle.enc_base.specs.Counts.{most_entries};
 ghost use Rattle.tf_core.specs.Sound.{IsSoundNormal};
 ghost use Rattle.tf_core.specs.TypedTables.{AreNormalModel};
 ghost use Rattle.tf_models.specs.Reading.{tables};
 ghost use Rattle.fof_models.specs.Models.{AreModel};
+ghost use Rattle.enc_marks.specs.Applies.{Applies};
+ghost use Rattle.enc_marks.specs.Applies as applies;
 ghost use Rattle.enc_marks.specs.Encoded as encoding;
 ghost use Rattle.enc_marks.specs.Schemes.{choices_of};
 ghost use Rattle.enc_models.specs.Lowered.{lowered, lowered_entries, IsRefused};
 ghost use Rattle.enc_models.specs.LiftedTables.{lifted_tables, lifted_entries, IsLiftRefused};
+ghost use Rattle.enc_pipeline.specs.Way as way;
 
 use enc_marks::{Encoded, Refusal, Scheme};
 use fof_models::Structure;
 use std::alloc::Global;
 use tf_core::Normal;
 use tf_models::TypedStructure;
+
+/// Whether the scheme is built.
+pub fn is_built(which: &Scheme) -> bool
+    ensures { result ≡ way.is_built which.now }
+{
+    match which {
+        Scheme::Guards => true,
+        _ => false,
+    }
+}
+
+/// The translation of a normal problem.
+pub(crate) fn encode(alloc: Global, which: &Scheme, normal: &Normal) -> Result<Encoded, Refusal>
+    requires built { way.is_built which.now ≡ true }
+    requires sound { IsSoundNormal normal.now }
+    ensures exact { IfOk result (λ made.
+        made ≡ encoding.encoded (choices_of which.now normal.now) normal.now) }
+    ensures applies { IfOk result (λ made. Applies which.now normal.now) }
+    ensures refused { IfErr result (applies.IsRefused which.now normal.now) }
+{
+    match which {
+        Scheme::Guards => enc_guards::encode(alloc, Scheme::Guards, normal),
+        _ => unreachable!(),
+    }
+}
 
 /// The untyped model that a model of the normal problem gives of its translation.
 pub(crate) fn lower(
@@ -25,15 +53,19 @@ pub(crate) fn lower(
     encoded: &Encoded,
     model: &TypedStructure,
 ) -> Result<Structure, Refusal>
-    requires built { which.now ≡ Scheme.Guards }
+    requires built { way.is_built which.now ≡ true }
     requires sound { IsSoundNormal normal.now }
     requires encoded { encoded.now ≡ encoding.encoded (choices_of which.now normal.now) normal.now }
     requires model { AreNormalModel normal.now (tables model.now) }
     requires few { length model.now.sizes < 2 ^ 32 }
     ensures model { IfOk result (AreModel encoded.now.problem) }
-    ensures exact { IfOk result (λ s. s ≡ lowered (choices_of which.now normal.now) normal.now (tables model.now)) }
-    ensures within { IfOk result (λ s. lowered_entries (choices_of which.now normal.now) normal.now (tables model.now) ≤ most_entries) }
-    ensures refused { IfErr result (IsRefused (choices_of which.now normal.now) normal.now (tables model.now)) }
+    ensures exact { IfOk result (λ s.
+        s ≡ lowered (choices_of which.now normal.now) normal.now (tables model.now)) }
+    ensures within { IfOk result (λ s.
+        lowered_entries (choices_of which.now normal.now) normal.now (tables model.now)
+        ≤ most_entries) }
+    ensures refused { IfErr result
+        (IsRefused (choices_of which.now normal.now) normal.now (tables model.now)) }
 {
     match which {
         Scheme::Guards => enc_guards::lower(alloc, Scheme::Guards, normal, encoded, model),
@@ -49,14 +81,17 @@ pub(crate) fn lift(
     encoded: &Encoded,
     model: &Structure,
 ) -> Result<TypedStructure, Refusal>
-    requires built { which.now ≡ Scheme.Guards }
+    requires built { way.is_built which.now ≡ true }
     requires sound { IsSoundNormal normal.now }
     requires encoded { encoded.now ≡ encoding.encoded (choices_of which.now normal.now) normal.now }
     requires model { AreModel encoded.now.problem model.now }
     ensures model { IfOk result (λ t. AreNormalModel normal.now (tables t)) }
-    ensures exact { IfOk result (λ t. tables t ≡ lifted_tables (choices_of which.now normal.now) normal.now model.now) }
-    ensures within { IfOk result (λ t. lifted_entries (choices_of which.now normal.now) normal.now model.now ≤ most_entries) }
-    ensures refused { IfErr result (IsLiftRefused (choices_of which.now normal.now) normal.now model.now) }
+    ensures exact { IfOk result (λ t.
+        tables t ≡ lifted_tables (choices_of which.now normal.now) normal.now model.now) }
+    ensures within { IfOk result (λ t.
+        lifted_entries (choices_of which.now normal.now) normal.now model.now ≤ most_entries) }
+    ensures refused { IfErr result
+        (IsLiftRefused (choices_of which.now normal.now) normal.now model.now) }
 {
     match which {
         Scheme::Guards => enc_guards::lift(alloc, Scheme::Guards, normal, encoded, model),

@@ -9,7 +9,7 @@ use Rattle.std.proofs.lemmas.List.Folds.{list_any_more}
 use Rattle.std.proofs.lemmas.List.Sums.{sum_by-cons, sum_by_more, count_by-le-length}
 use Rattle.std.proofs.lemmas.List.FromFn.{get_or-map-range_with_len, map-range_with_len_more, fill_by_all}
 use Rattle.enc_run.specs.Erased.{marked_before, numbers, marked}
-use Rattle.enc_run.specs.Marks.{AreMarked}
+use Rattle.enc_run.specs.Calls.Marks.{AreMarked}
 
 -- no new mark
 pub AreMarked-none : (test : ℕ → Bool) (before : List Bool) → ((f : ℕ) → test f ≡ false) →

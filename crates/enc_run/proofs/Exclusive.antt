@@ -1,6 +1,6 @@
--- The texts of a job lead to one thing alone: they are refused for one reason, the task isn't built
--- for them, or they have an output.
-use Rattle.std.proofs.Common.{◌≡◌, ◌<◌, ◌≤◌, ◌∙◌, ℕ, true, List, [], ◌∷◌, Ok, Err, sym, ap, subst, arith}
+-- A job leads to one thing alone: it is refused for one reason, the task isn't built for its problem,
+-- or it has an output.
+use Rattle.std.proofs.Common.{◌≡◌, ◌<◌, ◌≤◌, ◌∙◌, ℕ, true, List, [], ◌∷◌, Ok, Err, refl, sym, ap, subst, arith}
 use Rattle.enc_base.specs.Counts.{in_64_bits}
 use Rattle.tptp_syntax.specs.declared.entry.File.{File}
 use Rattle.tptp_syntax.specs.declared.error.ReadError.{ReadError}
@@ -15,10 +15,12 @@ use Rattle.tf_nnf.specs.Refusal.{most_nodes}
 use Rattle.enc_pipeline.specs.declared.fault.Fault.{Fault}
 use Rattle.enc_pipeline.specs.declared.fault.Fault.TheVariants as fault
 use Rattle.enc_pipeline.specs.Reading.{HasProblem}
-use Rattle.enc_pipeline.specs.Causes.{IsFirstFault, nodes_of}
-use Rattle.enc_run.specs.Leads.{IsRefusedBy, IsTableRefusedBy, IsUnbuilt, IsAcceptable, IsOutputOf, RefusesTable, Writes, is_taken, is_normalised}
+use Rattle.enc_pipeline.specs.Causes.{IsFirstFault, IsUnreadable, nodes_of}
+use Rattle.enc_run.specs.Leads.{Lead, LeadsTo, IsTooLarge, IsRefusedBy, IsTableRefusedBy, IsUnbuilt, IsAcceptable, IsOutputOf, is_taken, is_normalised}
 use Rattle.enc_run.specs.declared.job.Task.{Task}
 use Rattle.enc_run.proofs.TableLaws.{one_refusal, not_both}
+
+-- ---- a text leads to one thing
 
 one_problem : (file : File) (a b : Problem) → IsTyped file a → IsTyped file b → a ≡ b
 one_problem file a b is_a is_b = typed-problem_of file a is_a ∙ sym (typed-problem_of file b is_b)
@@ -44,136 +46,150 @@ same_problem text a b has_a has_b =
     let same = same_file text has_b.0 has_a.0 has_b.1 has_a.1 in
     one_problem has_a.0 a b has_a.2 (subst (λ f. IsTyped f b) same has_b.2)
 
-module _ (task : Task) (text : List ℕ) where
-  -- no reason stands where the text has a problem within the limits
-  pub not_refused : (reason : Fault) (problem : Problem) → IsRefusedBy task reason text
-      → HasProblem text problem
-      → ((is_taken task problem ≡ true) → (is_normalised task ≡ true)
-      → nodes_of problem ≤ most_nodes) → ⊥
-  not_refused (fault.Reading reason) problem refused has within =
-      not_read text has.0 reason has.1 refused
-  not_refused (fault.Typing reason) problem refused has within =
-      not_typed text refused.0 reason problem refused.1 refused.2 has
-  not_refused (fault.TooLarge nodes) problem refused has within =
-      let same = same_problem text refused.0 problem refused.1 has in
-      let taken : is_taken task problem ≡ true =
-      subst (λ p. is_taken task p ≡ true) same refused.2 in
-      let many : most_nodes < nodes_of problem =
-      subst (λ p. most_nodes < nodes_of p) same refused.4 in
-      let few = within taken refused.3 in absurd (omega arith)
-  not_refused (fault.Scheme reason) problem refused has within = refused
-  not_refused fault.Incomplete problem refused has within = refused
-  not_refused (fault.Table reason) problem refused has within = refused
-  not_refused (fault.NotModel formula) problem refused has within = refused
-  not_refused fault.Write problem refused has within = refused
-  not_refused fault.Memory problem refused has within = refused
+module _ (text : List ℕ) where
+  abbrev Leads : Lead → Type 0
+  Leads source = LeadsTo text source
 
-  -- ---- by the problem's text
+  -- a text that has a problem isn't refused
+  readable : (problem : Problem) (reason : Fault) → HasProblem text problem → Leads (Err reason) → ⊥
+  readable problem (fault.Reading reason) has leads = not_read text has.0 reason has.1 leads.1.1
+  readable problem (fault.Typing reason) has leads =
+      let found = leads.1.1 in not_typed text found.0 reason problem found.1 found.2 has
+  readable problem (fault.TooLarge nodes) has leads = leads.1
+  readable problem (fault.Scheme reason) has leads = leads.1
+  readable problem fault.Incomplete has leads = leads.1
+  readable problem (fault.Table reason) has leads = leads.1
+  readable problem (fault.NotModel formula) has leads = leads.1
+  readable problem fault.Write has leads = leads.1
+  readable problem fault.Memory has leads = leads.0 refl
 
-  pub refused_not_unbuilt : (reason : Fault) → IsRefusedBy task reason text → IsUnbuilt task text
-      → ⊥
-  refused_not_unbuilt reason refused unbuilt =
-      not_refused reason unbuilt.0 refused unbuilt.1
-      (λ taken normalised. let other = unbuilt.2 in absurd cc)
+  unread_once : (a : ReadError) (b : Fault) → Leads (Err (fault.Reading a)) → Leads (Err b)
+      → fault.Reading a ≡ b
+  unread_once a (fault.Reading b) is_a is_b =
+      let same = one_verdict text (Err a) (Err b) is_a.1.1 is_b.1.1 in
+      let reason : a ≡ b = cc in ap fault.Reading reason
+  unread_once a (fault.Typing b) is_a is_b =
+      let found = is_b.1.1 in absurd (not_read text found.0 a found.1 is_a.1.1)
+  unread_once a (fault.TooLarge b) is_a is_b = absurd is_b.1
+  unread_once a (fault.Scheme b) is_a is_b = absurd is_b.1
+  unread_once a fault.Incomplete is_a is_b = absurd is_b.1
+  unread_once a (fault.Table b) is_a is_b = absurd is_b.1
+  unread_once a (fault.NotModel b) is_a is_b = absurd is_b.1
+  unread_once a fault.Write is_a is_b = absurd is_b.1
+  unread_once a fault.Memory is_a is_b = absurd (is_b.0 refl)
 
-  pub refused_not_accepted : (reason : Fault) → IsRefusedBy task reason text
-      → IsAcceptable task text → ⊥
-  refused_not_accepted reason refused acceptable =
-      not_refused reason acceptable.0 refused acceptable.1.has
-      (λ taken normalised. acceptable.1.within normalised)
+  untyped_once : (a : TypeError) (b : Fault) → Leads (Err (fault.Typing a)) → Leads (Err b)
+      → fault.Typing a ≡ b
+  untyped_once a (fault.Reading b) is_a is_b =
+      let found = is_a.1.1 in absurd (not_read text found.0 b found.1 is_b.1.1)
+  untyped_once a (fault.Typing b) is_a is_b =
+      let one = is_a.1.1 in
+      let two = is_b.1.1 in
+      let same = same_file text one.0 two.0 one.1 two.1 in
+      let heads : a ∷ one.2.0 ≡ b ∷ two.2.0 = sym one.2.1 ∙ ap faults same ∙ two.2.1 in
+      let reason : a ≡ b = cc in ap fault.Typing reason
+  untyped_once a (fault.TooLarge b) is_a is_b = absurd is_b.1
+  untyped_once a (fault.Scheme b) is_a is_b = absurd is_b.1
+  untyped_once a fault.Incomplete is_a is_b = absurd is_b.1
+  untyped_once a (fault.Table b) is_a is_b = absurd is_b.1
+  untyped_once a (fault.NotModel b) is_a is_b = absurd is_b.1
+  untyped_once a fault.Write is_a is_b = absurd is_b.1
+  untyped_once a fault.Memory is_a is_b = absurd (is_b.0 refl)
 
-  pub unbuilt_not_accepted : IsUnbuilt task text → IsAcceptable task text → ⊥
-  unbuilt_not_accepted unbuilt acceptable =
-      let same = same_problem text unbuilt.0 acceptable.0 unbuilt.1 acceptable.1.has in
-      let taken : is_taken task unbuilt.0 ≡ true =
-      subst (λ p. is_taken task p ≡ true) (sym same) acceptable.1.taken in
-      let other = unbuilt.2 in cc
+  one_reason : (a b : Fault) → Leads (Err a) → Leads (Err b) → a ≡ b
+  one_reason (fault.Reading a) b is_a is_b = unread_once a b is_a is_b
+  one_reason (fault.Typing a) b is_a is_b = untyped_once a b is_a is_b
+  one_reason (fault.TooLarge a) b is_a is_b = absurd is_a.1
+  one_reason (fault.Scheme a) b is_a is_b = absurd is_a.1
+  one_reason fault.Incomplete b is_a is_b = absurd is_a.1
+  one_reason (fault.Table a) b is_a is_b = absurd is_a.1
+  one_reason (fault.NotModel a) b is_a is_b = absurd is_a.1
+  one_reason fault.Write b is_a is_b = absurd is_a.1
+  one_reason fault.Memory b is_a is_b = absurd (is_a.0 refl)
 
-  -- ---- by the table's
+  pub one_lead : (a b : Lead) → Leads a → Leads b → a ≡ b
+  one_lead (Ok a) (Ok b) is_a is_b = ap Ok (same_problem text a b is_a is_b)
+  one_lead (Ok a) (Err b) is_a is_b = absurd (readable a b is_a is_b)
+  one_lead (Err a) (Ok b) is_a is_b = absurd (readable b a is_b is_a)
+  one_lead (Err a) (Err b) is_a is_b = ap Err (one_reason a b is_a is_b)
+
+module _ (task : Task) where
+  -- what a problem with too many nodes is
+  record TooMany (problem : Problem) (reason : Fault) : Type 0 where
+    taken : is_taken task problem ≡ true
+    normalised : is_normalised task ≡ true
+    many : most_nodes < nodes_of problem
+    reason_is : reason ≡ fault.TooLarge (in_64_bits (nodes_of problem))
+
+  too_many : (problem : Problem) (reason : Fault) → IsTooLarge task problem reason
+      → TooMany problem reason
+  too_many problem (fault.TooLarge nodes) large = record {
+    taken = large.0;
+    normalised = large.1;
+    many = large.2;
+    reason_is = ap fault.TooLarge large.3;
+  }
+  too_many problem (fault.Reading reason) large = absurd large
+  too_many problem (fault.Typing reason) large = absurd large
+  too_many problem (fault.Scheme reason) large = absurd large
+  too_many problem fault.Incomplete large = absurd large
+  too_many problem (fault.Table reason) large = absurd large
+  too_many problem (fault.NotModel formula) large = absurd large
+  too_many problem fault.Write large = absurd large
+  too_many problem fault.Memory large = absurd large
+
+  -- ---- by the problem's source
+
+  pub refused_not_unbuilt : (source : Lead) (reason : Fault) → IsRefusedBy task reason source
+      → IsUnbuilt task source → ⊥
+  refused_not_unbuilt (Ok problem) reason refused unbuilt =
+      let taken = (too_many problem reason refused).taken in cc
+  refused_not_unbuilt (Err other) reason refused unbuilt = unbuilt
+
+  pub refused_not_accepted : (source : Lead) (reason : Fault) → IsRefusedBy task reason source
+      → IsAcceptable task source → ⊥
+  refused_not_accepted (Ok problem) reason refused accepted =
+      let large = too_many problem reason refused in
+      let many = large.many in
+      let few = accepted.within large.normalised in absurd (omega arith)
+  refused_not_accepted (Err other) reason refused accepted = accepted
+
+  pub unbuilt_not_accepted : (source : Lead) → IsUnbuilt task source → IsAcceptable task source → ⊥
+  unbuilt_not_accepted (Ok problem) unbuilt accepted = let taken = accepted.taken in cc
+  unbuilt_not_accepted (Err other) unbuilt accepted = accepted
+
+  -- only one reason stands
+  pub refused_once : (source : Lead) (a b : Fault) → IsRefusedBy task a source
+      → IsRefusedBy task b source → a ≡ b
+  refused_once (Ok problem) a b is_a is_b =
+      (too_many problem a is_a).reason_is ∙ sym (too_many problem b is_b).reason_is
+  refused_once (Err other) a b is_a is_b = is_a ∙ sym is_b
+
+  -- ---- by the table's text
 
   -- what is refused by its table, or has an output, is accepted before
 
-  pub table_refused_accepted : (reason : Fault) (table : List ℕ)
-      → IsTableRefusedBy task reason text table → IsAcceptable task text
-  table_refused_accepted reason table refused = (refused.0, refused.1)
+  pub table_refused_accepted : (source : Lead) (reason : Fault) (table : List ℕ)
+      → IsTableRefusedBy task reason source table → IsAcceptable task source
+  table_refused_accepted (Ok problem) reason table refused = refused.0
+  table_refused_accepted (Err other) reason table refused = refused
 
-  pub output_accepted : (output table : List ℕ) → IsOutputOf task output text table
-      → IsAcceptable task text
-  output_accepted output table is_output = (is_output.0, is_output.1)
+  pub output_accepted : (source : Lead) (output table : List ℕ)
+      → IsOutputOf task output source table → IsAcceptable task source
+  output_accepted (Ok problem) output table is_output = is_output.0
+  output_accepted (Err other) output table is_output = is_output
 
-  -- ---- only one reason stands
+  -- it is refused for one reason
+  pub table_refused_once : (source : Lead) (table : List ℕ) (a b : Fault)
+      → IsTableRefusedBy task a source table → IsTableRefusedBy task b source table → a ≡ b
+  table_refused_once (Ok problem) table a b is_a is_b =
+      one_refusal task problem table a b is_a.1 is_b.1
+  table_refused_once (Err other) table a b is_a is_b = absurd is_a
 
-  unread_once : (a : ReadError) (b : Fault) → IsRefusedBy task (fault.Reading a) text
-      → IsRefusedBy task b text → fault.Reading a ≡ b
-  unread_once a (fault.Reading b) is_a is_b =
-      let same = one_verdict text (Err a) (Err b) is_a is_b in
-      let reason : a ≡ b = cc in ap fault.Reading reason
-  unread_once a (fault.Typing b) is_a is_b = absurd (not_read text is_b.0 a is_b.1 is_a)
-  unread_once a (fault.TooLarge b) is_a is_b = absurd (not_read text is_b.1.0 a is_b.1.1 is_a)
-  unread_once a (fault.Scheme b) is_a is_b = absurd is_b
-  unread_once a fault.Incomplete is_a is_b = absurd is_b
-  unread_once a (fault.Table b) is_a is_b = absurd is_b
-  unread_once a (fault.NotModel b) is_a is_b = absurd is_b
-  unread_once a fault.Write is_a is_b = absurd is_b
-  unread_once a fault.Memory is_a is_b = absurd is_b
-
-  untyped_once : (a : TypeError) (b : Fault) → IsRefusedBy task (fault.Typing a) text
-      → IsRefusedBy task b text → fault.Typing a ≡ b
-  untyped_once a (fault.Reading b) is_a is_b = absurd (not_read text is_a.0 b is_a.1 is_b)
-  untyped_once a (fault.Typing b) is_a is_b =
-      let same = same_file text is_a.0 is_b.0 is_a.1 is_b.1 in
-      let heads : a ∷ is_a.2.0 ≡ b ∷ is_b.2.0 = sym is_a.2.1 ∙ ap faults same ∙ is_b.2.1 in
-      let reason : a ≡ b = cc in ap fault.Typing reason
-  untyped_once a (fault.TooLarge b) is_a is_b =
-      absurd (not_typed text is_a.0 a is_b.0 is_a.1 is_a.2 is_b.1)
-  untyped_once a (fault.Scheme b) is_a is_b = absurd is_b
-  untyped_once a fault.Incomplete is_a is_b = absurd is_b
-  untyped_once a (fault.Table b) is_a is_b = absurd is_b
-  untyped_once a (fault.NotModel b) is_a is_b = absurd is_b
-  untyped_once a fault.Write is_a is_b = absurd is_b
-  untyped_once a fault.Memory is_a is_b = absurd is_b
-
-  large_once : (a : ℕ) (b : Fault) → IsRefusedBy task (fault.TooLarge a) text
-      → IsRefusedBy task b text → fault.TooLarge a ≡ b
-  large_once a (fault.Reading b) is_a is_b = absurd (not_read text is_a.1.0 b is_a.1.1 is_b)
-  large_once a (fault.Typing b) is_a is_b =
-      absurd (not_typed text is_b.0 b is_a.0 is_b.1 is_b.2 is_a.1)
-  large_once a (fault.TooLarge b) is_a is_b =
-      let same = same_problem text is_a.0 is_b.0 is_a.1 is_b.1 in
-      ap fault.TooLarge (is_a.5 ∙ ap (λ p. in_64_bits (nodes_of p)) same ∙ sym is_b.5)
-  large_once a (fault.Scheme b) is_a is_b = absurd is_b
-  large_once a fault.Incomplete is_a is_b = absurd is_b
-  large_once a (fault.Table b) is_a is_b = absurd is_b
-  large_once a (fault.NotModel b) is_a is_b = absurd is_b
-  large_once a fault.Write is_a is_b = absurd is_b
-  large_once a fault.Memory is_a is_b = absurd is_b
-
-  pub refused_once : (a b : Fault) → IsRefusedBy task a text → IsRefusedBy task b text → a ≡ b
-  refused_once (fault.Reading a) b is_a is_b = unread_once a b is_a is_b
-  refused_once (fault.Typing a) b is_a is_b = untyped_once a b is_a is_b
-  refused_once (fault.TooLarge a) b is_a is_b = large_once a b is_a is_b
-  refused_once (fault.Scheme a) b is_a is_b = absurd is_a
-  refused_once fault.Incomplete b is_a is_b = absurd is_a
-  refused_once (fault.Table a) b is_a is_b = absurd is_a
-  refused_once (fault.NotModel a) b is_a is_b = absurd is_a
-  refused_once fault.Write b is_a is_b = absurd is_a
-  refused_once fault.Memory b is_a is_b = absurd is_a
-
--- ---- the table's text
-
-module _ (task : Task) (text table : List ℕ) where
-  -- the texts are refused by the table for one reason
-  pub table_refused_once : (a b : Fault) → IsTableRefusedBy task a text table
-      → IsTableRefusedBy task b text table → a ≡ b
-  table_refused_once a b is_a is_b =
-      let same = same_problem text is_b.0 is_a.0 is_b.1.has is_a.1.has in
-      one_refusal task is_a.0 table a b is_a.2
-      (subst (λ p. RefusesTable task p table b) same is_b.2)
-
-  -- and then they have no output
-  pub table_refused_not_output : (reason : Fault) (output : List ℕ)
-      → IsTableRefusedBy task reason text table → IsOutputOf task output text table → ⊥
-  table_refused_not_output reason output refused is_output =
-      let same = same_problem text is_output.0 refused.0 is_output.1.has refused.1.has in
-      not_both task refused.0 table reason output refused.2
-      (subst (λ p. Writes task p table output) same is_output.2)
+  -- and then there is no output
+  pub table_refused_not_output : (source : Lead) (table : List ℕ) (reason : Fault)
+      (output : List ℕ) → IsTableRefusedBy task reason source table
+      → IsOutputOf task output source table → ⊥
+  table_refused_not_output (Ok problem) table reason output refused is_output =
+      not_both task problem table reason output refused.1 is_output.1
+  table_refused_not_output (Err other) table reason output refused is_output = refused

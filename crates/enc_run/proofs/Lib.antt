@@ -21,3 +21,4 @@ pub mod Statuses
 pub mod Begun
 pub mod Noted
 pub mod TablePromises
+pub mod PlainJobs

@@ -1,11 +1,14 @@
 -- What a run promises of its notes follows from how it ended.
 use Rattle.std.proofs.Common.{◌≡◌, ◌++◌, ℕ, List, Option, Ok, Err, subst, arith}
 use Rattle.enc_base.specs.Library.{IsHeld}
+use Rattle.enc_pipeline.specs.RefusalNumbers.{number_of}
 use Rattle.enc_pipeline.specs.declared.fault.Fault.{Fault}
-use Rattle.enc_run.specs.Ending.{EndsBy, IsRefused, IsInput, status_at, Noted}
-use Rattle.enc_run.specs.Note.{line, not_built, cannot_read, cannot_write, no_memory, IsNoteOf, Notes}
+use Rattle.enc_run.specs.Texts.{IsRefused, IsInput}
+use Rattle.enc_run.specs.Calls.Ending.{EndsBy, status_at, Noted}
+use Rattle.enc_run.specs.Note.{line, number_word, not_built, cannot_read, cannot_write, no_memory}
+use Rattle.enc_run.specs.Calls.Note.{IsNoteOf, Notes}
 use Rattle.enc_run.specs.Promises.{IsOfRefusal, NotesHold}
-use Rattle.enc_run.specs.Refusals.{status_of, number_of}
+use Rattle.enc_run.specs.Statuses.{status_of_refusal}
 use Rattle.enc_run.specs.Work.{Change, Work, OwnRises, Adds}
 use Rattle.enc_run.specs.declared.stop.Stop.TheVariants.{NotBuilt, Unread, Refused, Unwritten, Memory}
 use Rattle.enc_run.proofs.Statuses.{End, not_refusal, only_refused}
@@ -75,8 +78,8 @@ module _ (w : Work) (notes : Change (Option (List ℕ))) (notes_faults : Change 
 
   noted_refused : (end : End) → EndsBy w end → Noted end notes notes_faults
       → IsOfRefusal (status_at end)
-      → (reason : Fault) × IsRefused w reason × (status_of reason ≡ status_at end)
-      × ((rest : List ℕ) × Adds notes notes_faults (line (number_of reason ++ rest)))
+      → (reason : Fault) × IsRefused w reason × (status_of_refusal reason ≡ status_at end)
+      × ((rest : List ℕ) × Adds notes notes_faults (line (number_word (number_of reason) ++ rest)))
   noted_refused end ends noted is =
       let refused = only_refused w end ends is in
       let note : Notes (Refused refused.0) notes notes_faults =
@@ -85,7 +88,7 @@ module _ (w : Work) (notes : Change (Option (List ℕ))) (notes_faults : Change 
         refused.0,
         refused.1,
         refused.2,
-        (rest.0, added (line (number_of refused.0 ++ rest.0)) note.0 rest.1 note.2),
+        (rest.0, added (line (number_word (number_of refused.0) ++ rest.0)) note.0 rest.1 note.2),
       )
 
   pub notes_of : (end : End) → EndsBy w end → Noted end notes notes_faults

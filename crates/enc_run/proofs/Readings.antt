@@ -4,12 +4,14 @@ use Rattle.std.specs.Io.KnownBytes.{Appends}
 use Rattle.enc_base.specs.Library.{Files, IsHeld}
 use Rattle.enc_base.specs.Sink.{AppendsPrefix}
 use Rattle.enc_pipeline.specs.declared.fault.Fault.{Fault}
-use Rattle.enc_run.specs.Ending.{OfText, EndsBy, IsOutput, status_at, Ended}
+use Rattle.enc_run.specs.Source.{IsToldSource, AreToldSource}
+use Rattle.enc_run.specs.Texts.{OfSource, IsOutput}
+use Rattle.enc_run.specs.Calls.Ending.{EndsBy, status_at, Ended}
 use Rattle.enc_run.specs.Job.{table_name}
-use Rattle.enc_run.specs.Leads.{IsRefusedBy, IsTableRefusedBy, IsUnbuilt, IsAcceptable, IsOutputOf}
+use Rattle.enc_run.specs.Leads.{Lead, IsRefusedBy, IsTableRefusedBy, IsUnbuilt, IsAcceptable, IsOutputOf}
 use Rattle.enc_run.specs.Promises.{IsOrMemory, Complete, NotBuiltExactly, RefusedExactly, UnreadOnly, UnheldIsUnread, UnwrittenOnly, IsStatus, OutHolds, NotesHold}
-use Rattle.enc_run.specs.Refusals.{status_of}
-use Rattle.enc_run.specs.Work.{Change, Work, Untouched, HasTable, OwnRises, IsTold, AreTold}
+use Rattle.enc_run.specs.Statuses.{status_of_refusal}
+use Rattle.enc_run.specs.Work.{Change, Work, Untouched, HasTable, ProblemStands}
 use Rattle.enc_run.specs.Work.{NoneFails}
 use Rattle.enc_run.specs.declared.job.Job.{Job}
 use Rattle.enc_run.specs.declared.job.Task.{Task}
@@ -72,8 +74,9 @@ unwritten w (Err Memory) ends is = absurd (omega arith)
 
 -- ---- names that aren't held
 
-abbrev ToTable : (Task → List ℕ → List ℕ → Type 0) → Work → Task → List ℕ → Type 0
-ToTable Holding w task text = (table : List ℕ) × HasTable w task table × Holding task text table
+abbrev ToTable : (Task → Lead → List ℕ → Type 0) → Work → Task → Lead → Type 0
+ToTable Holding w task source =
+    (table : List ℕ) × HasTable w task table × Holding task source table
 
 unheld : (w : Work) (end : End) → EndsBy w end → (job : Job) (files : Files) → w.job ≡ Some job
     → w.held ≡ Some files → (IsHeld w.held job.problem → ⊥) → IsOrMemory 6 (status_at end)
@@ -96,32 +99,32 @@ unheld w (Err Unwritten) ends job files is_job is_told none =
     is_told ends.0.0.1))
 unheld w (Err Memory) ends job files is_job is_told none = inr refl
 
-unheld_table : (w : Work) (end : End) → EndsBy w end → (job : Job) (text name : List ℕ)
-    → IsTold w job text → (OwnRises w job.problem → ⊥) → IsAcceptable job.task text
+unheld_table : (w : Work) (end : End) → EndsBy w end → (job : Job) (source : Lead) (name : List ℕ)
+    → IsToldSource w job source → ProblemStands w job → IsAcceptable job.task source
     → table_name job.task ≡ Some name → (IsHeld w.held name → ⊥) → IsOrMemory 6 (status_at end)
-unheld_table w (Ok done) ends job text name is_told untroubled acceptable is_name none =
-    let has = told_text w (λ task. IsOutputOf task ends.0) job text ends.1 is_told in
-    absurd (none (table_is_held w job text name has.0 is_told is_name has.1))
-unheld_table w (Err NotBuilt) ends job text name is_told untroubled acceptable is_name none =
+unheld_table w (Ok done) ends job source name is_told untroubled acceptable is_name none =
+    let has = told_text w (λ task. IsOutputOf task ends.0) job source ends.1 is_told in
+    absurd (none (table_is_held w job source name has.0 is_told is_name has.1))
+unheld_table w (Err NotBuilt) ends job source name is_told untroubled acceptable is_name none =
     elim ends.0 [
       | inl jobless ↦ absurd (no_job w job jobless is_told.job_is)
-      | inr of ↦ absurd (unbuilt_not_accepted job.task text (told w IsUnbuilt job text of is_told)
+      | inr of ↦ absurd (unbuilt_not_accepted job.task source (told w IsUnbuilt job source of is_told)
           acceptable)
     ]
-unheld_table w (Err (Unread unread)) ends job text name is_told untroubled acceptable is_name none =
+unheld_table w (Err (Unread unread)) ends job source name is_told untroubled acceptable is_name none =
     inl refl
-unheld_table w (Err (Refused reason)) ends job text name is_told untroubled acceptable is_name none =
+unheld_table w (Err (Refused reason)) ends job source name is_told untroubled acceptable is_name none =
     elim ends.0 [
-      | inl of ↦ absurd (refused_not_accepted job.task text reason
-          (told w (λ task. IsRefusedBy task reason) job text of is_told) acceptable)
+      | inl of ↦ absurd (refused_not_accepted job.task source reason
+          (told w (λ task. IsRefusedBy task reason) job source of is_told) acceptable)
       | inr of ↦
-          let has = told_text w (λ task. IsTableRefusedBy task reason) job text of is_told in
-          absurd (none (table_is_held w job text name has.0 is_told is_name has.1))
+          let has = told_text w (λ task. IsTableRefusedBy task reason) job source of is_told in
+          absurd (none (table_is_held w job source name has.0 is_told is_name has.1))
     ]
-unheld_table w (Err Unwritten) ends job text name is_told untroubled acceptable is_name none =
-    let has = told_text w (λ task. IsOutputOf task ends.0.0.0) job text ends.0.0.1 is_told in
-    absurd (none (table_is_held w job text name has.0 is_told is_name has.1))
-unheld_table w (Err Memory) ends job text name is_told untroubled acceptable is_name none = inr refl
+unheld_table w (Err Unwritten) ends job source name is_told untroubled acceptable is_name none =
+    let has = told_text w (λ task. IsOutputOf task ends.0.0.0) job source ends.0.0.1 is_told in
+    absurd (none (table_is_held w job source name has.0 is_told is_name has.1))
+unheld_table w (Err Memory) ends job source name is_told untroubled acceptable is_name none = inr refl
 
 -- ---- want of a job
 
@@ -140,7 +143,7 @@ at_words w (Err Unwritten) ends none = absurd (no_job w ends.0.0.1.0 none ends.0
 at_words w (Err Memory) ends none = inr refl
 
 only_unbuilt : (w : Work) (end : End) → EndsBy w end → status_at end ≡ 9
-    → (w.job ≡ None) ⊎ OfText w IsUnbuilt
+    → (w.job ≡ None) ⊎ OfSource w IsUnbuilt
 only_unbuilt w (Ok done) ends is = absurd (omega arith)
 only_unbuilt w (Err NotBuilt) ends is = ends.0
 only_unbuilt w (Err (Unread name)) ends is = absurd (omega arith)
@@ -151,126 +154,127 @@ only_unbuilt w (Err Memory) ends is = absurd (omega arith)
 
 -- ---- told texts
 
--- what holds of the problem's text alone, where an output is made or a table refused
+-- what holds of the problem's source alone, where an output is made or a table refused
 
-accepted_output : (w : Work) (output : List ℕ) (job : Job) (text : List ℕ) → IsOutput w output
-    → IsTold w job text → IsAcceptable job.task text
-accepted_output w output job text of is_told =
-    let has = told_text w (λ task. IsOutputOf task output) job text of is_told in
-    output_accepted job.task text output has.0 has.2
+accepted_output : (w : Work) (output : List ℕ) (job : Job) (source : Lead) → IsOutput w output
+    → IsToldSource w job source → IsAcceptable job.task source
+accepted_output w output job source of is_told =
+    let has = told_text w (λ task. IsOutputOf task output) job source of is_told in
+    output_accepted job.task source output has.0 has.2
 
-at_unbuilt : (w : Work) (end : End) → EndsBy w end → (job : Job) (text : List ℕ)
-    → IsTold w job text → (OwnRises w job.problem → ⊥) → IsUnbuilt job.task text
+at_unbuilt : (w : Work) (end : End) → EndsBy w end → (job : Job) (source : Lead)
+    → IsToldSource w job source → ProblemStands w job → IsUnbuilt job.task source
     → IsOrMemory 9 (status_at end)
-at_unbuilt w (Ok done) ends job text is_told untroubled unbuilt =
-    absurd (unbuilt_not_accepted job.task text unbuilt
-    (accepted_output w ends.0 job text ends.1 is_told))
-at_unbuilt w (Err NotBuilt) ends job text is_told untroubled unbuilt = inl refl
-at_unbuilt w (Err (Unread name)) ends job text is_told untroubled unbuilt =
-    let table = table_unread w name job text ends.0.0 ends.0.1 is_told untroubled in
-    absurd (unbuilt_not_accepted job.task text unbuilt table.1)
-at_unbuilt w (Err (Refused reason)) ends job text is_told untroubled unbuilt = elim ends.0 [
-  | inl of ↦ absurd (refused_not_unbuilt job.task text reason
-      (told w (λ task. IsRefusedBy task reason) job text of is_told) unbuilt)
+at_unbuilt w (Ok done) ends job source is_told untroubled unbuilt =
+    absurd (unbuilt_not_accepted job.task source unbuilt
+    (accepted_output w ends.0 job source ends.1 is_told))
+at_unbuilt w (Err NotBuilt) ends job source is_told untroubled unbuilt = inl refl
+at_unbuilt w (Err (Unread name)) ends job source is_told untroubled unbuilt =
+    let table = table_unread w name job source ends.0.0 ends.0.1 is_told untroubled in
+    absurd (unbuilt_not_accepted job.task source unbuilt table.1)
+at_unbuilt w (Err (Refused reason)) ends job source is_told untroubled unbuilt = elim ends.0 [
+  | inl of ↦ absurd (refused_not_unbuilt job.task source reason
+      (told w (λ task. IsRefusedBy task reason) job source of is_told) unbuilt)
   | inr of ↦
-      let has = told_text w (λ task. IsTableRefusedBy task reason) job text of is_told in
-      absurd (unbuilt_not_accepted job.task text unbuilt
-      (table_refused_accepted job.task text reason has.0 has.2))
+      let has = told_text w (λ task. IsTableRefusedBy task reason) job source of is_told in
+      absurd (unbuilt_not_accepted job.task source unbuilt
+      (table_refused_accepted job.task source reason has.0 has.2))
 ]
-at_unbuilt w (Err Unwritten) ends job text is_told untroubled unbuilt =
-    absurd (unbuilt_not_accepted job.task text unbuilt
-    (accepted_output w ends.0.0.0 job text ends.0.0.1 is_told))
-at_unbuilt w (Err Memory) ends job text is_told untroubled unbuilt = inr refl
+at_unbuilt w (Err Unwritten) ends job source is_told untroubled unbuilt =
+    absurd (unbuilt_not_accepted job.task source unbuilt
+    (accepted_output w ends.0.0.0 job source ends.0.0.1 is_told))
+at_unbuilt w (Err Memory) ends job source is_told untroubled unbuilt = inr refl
 
-at_refused : (w : Work) (end : End) → EndsBy w end → (job : Job) (text : List ℕ)
-    (reason : Fault) → IsTold w job text → (OwnRises w job.problem → ⊥)
-    → IsRefusedBy job.task reason text → IsOrMemory (status_of reason) (status_at end)
-at_refused w (Ok done) ends job text reason is_told untroubled refused =
-    absurd (refused_not_accepted job.task text reason refused
-    (accepted_output w ends.0 job text ends.1 is_told))
-at_refused w (Err NotBuilt) ends job text reason is_told untroubled refused = elim ends.0 [
+at_refused : (w : Work) (end : End) → EndsBy w end → (job : Job) (source : Lead)
+    (reason : Fault) → IsToldSource w job source → ProblemStands w job
+    → IsRefusedBy job.task reason source → IsOrMemory (status_of_refusal reason) (status_at end)
+at_refused w (Ok done) ends job source reason is_told untroubled refused =
+    absurd (refused_not_accepted job.task source reason refused
+    (accepted_output w ends.0 job source ends.1 is_told))
+at_refused w (Err NotBuilt) ends job source reason is_told untroubled refused = elim ends.0 [
   | inl none ↦ absurd (no_job w job none is_told.job_is)
-  | inr of ↦ absurd (refused_not_unbuilt job.task text reason refused
-      (told w IsUnbuilt job text of is_told))
+  | inr of ↦ absurd (refused_not_unbuilt job.task source reason refused
+      (told w IsUnbuilt job source of is_told))
 ]
-at_refused w (Err (Unread name)) ends job text reason is_told untroubled refused =
-    let table = table_unread w name job text ends.0.0 ends.0.1 is_told untroubled in
-    absurd (refused_not_accepted job.task text reason refused table.1)
-at_refused w (Err (Refused other)) ends job text reason is_told untroubled refused = elim ends.0 [
-  | inl of ↦ inl (ap status_of (refused_once job.task text other reason
-      (told w (λ task. IsRefusedBy task other) job text of is_told) refused))
+at_refused w (Err (Unread name)) ends job source reason is_told untroubled refused =
+    let table = table_unread w name job source ends.0.0 ends.0.1 is_told untroubled in
+    absurd (refused_not_accepted job.task source reason refused table.1)
+at_refused w (Err (Refused other)) ends job source reason is_told untroubled refused = elim ends.0 [
+  | inl of ↦ inl (ap status_of_refusal (refused_once job.task source other reason
+      (told w (λ task. IsRefusedBy task other) job source of is_told) refused))
   | inr of ↦
-      let has = told_text w (λ task. IsTableRefusedBy task other) job text of is_told in
-      absurd (refused_not_accepted job.task text reason refused
-      (table_refused_accepted job.task text other has.0 has.2))
+      let has = told_text w (λ task. IsTableRefusedBy task other) job source of is_told in
+      absurd (refused_not_accepted job.task source reason refused
+      (table_refused_accepted job.task source other has.0 has.2))
 ]
-at_refused w (Err Unwritten) ends job text reason is_told untroubled refused =
-    absurd (refused_not_accepted job.task text reason refused
-    (accepted_output w ends.0.0.0 job text ends.0.0.1 is_told))
-at_refused w (Err Memory) ends job text reason is_told untroubled refused = inr refl
+at_refused w (Err Unwritten) ends job source reason is_told untroubled refused =
+    absurd (refused_not_accepted job.task source reason refused
+    (accepted_output w ends.0.0.0 job source ends.0.0.1 is_told))
+at_refused w (Err Memory) ends job source reason is_told untroubled refused = inr refl
 
 -- ---- told tables
 
 -- no read of a told job stops a run where none fails
-all_read : (w : Work) (name : List ℕ) (job : Job) (text table : List ℕ)
-    → EndsBy w (Err (Unread name)) → AreTold w job text table → NoneFails w job → ⊥
-all_read w name job text table ends are_told none =
-    let is_name = (table_unread w name job text ends.0.0 ends.0.1 are_told.told none.problem).0 in
-    none.table name is_name (table_fails w name job text table are_told is_name ends.0.1)
+all_read : (w : Work) (name : List ℕ) (job : Job) (source : Lead) (table : List ℕ)
+    → EndsBy w (Err (Unread name)) → AreToldSource w job source table → NoneFails w job → ⊥
+all_read w name job source table ends are_told none =
+    let is_name = (table_unread w name job source ends.0.0 ends.0.1 are_told.told none.problem).0 in
+    none.table name is_name (table_fails w name job source table are_told is_name ends.0.1)
 
-at_table_refused : (w : Work) (end : End) → EndsBy w end → (job : Job) (text table : List ℕ)
-    (reason : Fault) → AreTold w job text table → NoneFails w job
-    → IsTableRefusedBy job.task reason text table
-    → IsOrMemory (status_of reason) (status_at end)
-at_table_refused w (Ok done) ends job text table reason are_told none refused =
-    absurd (table_refused_not_output job.task text table reason ends.0 refused
-    (told_both w (λ task. IsOutputOf task ends.0) job text table ends.1 are_told))
-at_table_refused w (Err NotBuilt) ends job text table reason are_told none refused =
+at_table_refused : (w : Work) (end : End) → EndsBy w end → (job : Job) (source : Lead)
+    (table : List ℕ)
+    (reason : Fault) → AreToldSource w job source table → NoneFails w job
+    → IsTableRefusedBy job.task reason source table
+    → IsOrMemory (status_of_refusal reason) (status_at end)
+at_table_refused w (Ok done) ends job source table reason are_told none refused =
+    absurd (table_refused_not_output job.task source table reason ends.0 refused
+    (told_both w (λ task. IsOutputOf task ends.0) job source table ends.1 are_told))
+at_table_refused w (Err NotBuilt) ends job source table reason are_told none refused =
     elim ends.0 [
       | inl jobless ↦ absurd (no_job w job jobless are_told.told.job_is)
-      | inr of ↦ absurd (unbuilt_not_accepted job.task text
-          (told w IsUnbuilt job text of are_told.told)
-          (table_refused_accepted job.task text reason table refused))
+      | inr of ↦ absurd (unbuilt_not_accepted job.task source
+          (told w IsUnbuilt job source of are_told.told)
+          (table_refused_accepted job.task source reason table refused))
     ]
-at_table_refused w (Err (Unread name)) ends job text table reason are_told none refused =
-    absurd (all_read w name job text table ends are_told none)
-at_table_refused w (Err (Refused other)) ends job text table reason are_told none refused =
+at_table_refused w (Err (Unread name)) ends job source table reason are_told none refused =
+    absurd (all_read w name job source table ends are_told none)
+at_table_refused w (Err (Refused other)) ends job source table reason are_told none refused =
     elim ends.0 [
-      | inl of ↦ absurd (refused_not_accepted job.task text other
-          (told w (λ task. IsRefusedBy task other) job text of are_told.told)
-          (table_refused_accepted job.task text reason table refused))
-      | inr of ↦ inl (ap status_of (table_refused_once job.task text table other reason
-          (told_both w (λ task. IsTableRefusedBy task other) job text table of are_told)
+      | inl of ↦ absurd (refused_not_accepted job.task source other
+          (told w (λ task. IsRefusedBy task other) job source of are_told.told)
+          (table_refused_accepted job.task source reason table refused))
+      | inr of ↦ inl (ap status_of_refusal (table_refused_once job.task source table other reason
+          (told_both w (λ task. IsTableRefusedBy task other) job source table of are_told)
           refused))
     ]
-at_table_refused w (Err Unwritten) ends job text table reason are_told none refused =
-    absurd (table_refused_not_output job.task text table reason ends.0.0.0 refused
-    (told_both w (λ task. IsOutputOf task ends.0.0.0) job text table ends.0.0.1 are_told))
-at_table_refused w (Err Memory) ends job text table reason are_told none refused = inr refl
+at_table_refused w (Err Unwritten) ends job source table reason are_told none refused =
+    absurd (table_refused_not_output job.task source table reason ends.0.0.0 refused
+    (told_both w (λ task. IsOutputOf task ends.0.0.0) job source table ends.0.0.1 are_told))
+at_table_refused w (Err Memory) ends job source table reason are_told none refused = inr refl
 
 complete : (w : Work) (end : End) → EndsBy w end → Complete w (status_at end)
-complete w (Ok done) ends job text table output are_told is_output none written = inl refl
-complete w (Err NotBuilt) ends job text table output are_told is_output none written =
+complete w (Ok done) ends job source table output are_told is_output none written = inl refl
+complete w (Err NotBuilt) ends job source table output are_told is_output none written =
     elim ends.0 [
       | inl jobless ↦ absurd (no_job w job jobless are_told.told.job_is)
-      | inr of ↦ absurd (unbuilt_not_accepted job.task text
-          (told w IsUnbuilt job text of are_told.told)
-          (output_accepted job.task text output table is_output))
+      | inr of ↦ absurd (unbuilt_not_accepted job.task source
+          (told w IsUnbuilt job source of are_told.told)
+          (output_accepted job.task source output table is_output))
     ]
-complete w (Err (Unread name)) ends job text table output are_told is_output none written =
-    absurd (all_read w name job text table ends are_told none)
-complete w (Err (Refused reason)) ends job text table output are_told is_output none written =
+complete w (Err (Unread name)) ends job source table output are_told is_output none written =
+    absurd (all_read w name job source table ends are_told none)
+complete w (Err (Refused reason)) ends job source table output are_told is_output none written =
     elim ends.0 [
-      | inl of ↦ absurd (refused_not_accepted job.task text reason
-          (told w (λ task. IsRefusedBy task reason) job text of are_told.told)
-          (output_accepted job.task text output table is_output))
-      | inr of ↦ absurd (table_refused_not_output job.task text table reason output
-          (told_both w (λ task. IsTableRefusedBy task reason) job text table of are_told)
+      | inl of ↦ absurd (refused_not_accepted job.task source reason
+          (told w (λ task. IsRefusedBy task reason) job source of are_told.told)
+          (output_accepted job.task source output table is_output))
+      | inr of ↦ absurd (table_refused_not_output job.task source table reason output
+          (told_both w (λ task. IsTableRefusedBy task reason) job source table of are_told)
           is_output)
     ]
-complete w (Err Unwritten) ends job text table output are_told is_output none written =
+complete w (Err Unwritten) ends job source table output are_told is_output none written =
     absurd (written ends.0.1)
-complete w (Err Memory) ends job text table output are_told is_output none written = inr refl
+complete w (Err Memory) ends job source table output are_told is_output none written = inr refl
 
 -- ---- all promises of this kind
 
@@ -287,13 +291,13 @@ module _
     pub not_built_exactly : NotBuiltExactly w status
     not_built_exactly = at_status (NotBuiltExactly w) (record {
       at_words = at_words w ended.end ended.ends;
-      at_text = at_unbuilt w ended.end ended.ends;
+      at_source = at_unbuilt w ended.end ended.ends;
       only = only_unbuilt w ended.end ended.ends;
     })
 
     pub refused_exactly : RefusedExactly w status
     refused_exactly = at_status (RefusedExactly w) (record {
-      at_text = at_refused w ended.end ended.ends;
+      at_source = at_refused w ended.end ended.ends;
       at_table = at_table_refused w ended.end ended.ends;
       only = λ is.
           let refused = only_refused w ended.end ended.ends is in
@@ -305,7 +309,9 @@ module _
 
     pub unheld_is_unread : UnheldIsUnread w status
     unheld_is_unread = at_status (UnheldIsUnread w) (record {
-      problem = unheld w ended.end ended.ends;
+      problem = λ job name files is_job is_name is_told none.
+          unheld w ended.end ended.ends job files is_job is_told
+          (λ held. none (subst (λ n. IsHeld w.held n) is_name held));
       table = unheld_table w ended.end ended.ends;
     })
 

@@ -1,13 +1,16 @@
 -- How a run ends whose task is seen from the read of the problem's text on.
 use Rattle.std.proofs.Common.{◌≡◌, ◌≤◌, ◌∙◌, inl, inr, ℕ, List, Option, Some, None, is_some, Result, Ok, Err, sym, ap, subst, arith}
-use Rattle.std.specs.Prelude.{[]}
+use Rattle.std.specs.Prelude.{[], IsSome}
 use Rattle.enc_base.specs.Counts.{Rose, one_more}
 use Rattle.enc_base.specs.Library.{Files, Gives, IsHeld}
-use Rattle.enc_run.specs.Ending.{EndsBy, Fails, IsUnread, ReadsAsNeeded}
+use Rattle.enc_run.specs.Texts.{OfSource, OfTexts, Fails, ReadsAsNeeded}
+use Rattle.enc_run.specs.Calls.Ending.{EndsBy, IsUnread}
 use Rattle.enc_run.specs.Job.{table_name}
-use Rattle.enc_run.specs.Parts.{TextEnds, ReadsTable}
+use Rattle.enc_run.specs.Leads.{Lead, IsRefusedBy, IsTableRefusedBy, IsUnbuilt, IsAcceptable, IsOutputOf}
+use Rattle.enc_run.specs.Calls.Parts.{Led, TextEnds, ReadsTable}
 use Rattle.enc_run.specs.Work.{Work, Rises, OwnRises, Untouched, GoesOn, HasText, HasTable, OfName}
 use Rattle.enc_run.specs.declared.job.Job.{Job}
+use Rattle.enc_run.specs.declared.job.Task.{Task}
 use Rattle.enc_run.specs.declared.stop.Stop.{Stop}
 use Rattle.enc_run.specs.declared.stop.Stop.TheVariants.{NotBuilt, Unread, Refused, Unwritten, Memory}
 
@@ -77,6 +80,19 @@ module _ (w : Work) (job : Job) (is_job : w.job ≡ Some job) where
         subst (λ (h : Option Files). OfName (table_name job.task) (λ name bytes. Gives h name [] bytes)
         table) same_files holds
 
+    -- what holds of what the text leads to holds of the job's source
+    of_source : (Holding : Task → Lead → Type 0) → Led text (Holding job.task)
+        → OfSource w Holding
+    of_source Holding led = (job, is_job, (led.0, (text, has, led.1), led.2))
+
+    of_texts : (Holding : Task → Lead → List ℕ → Type 0) (table : List ℕ)
+        → HasTable rest job.task table → Led text (λ source. Holding job.task source table)
+        → OfTexts w Holding
+    of_texts Holding table holds led =
+        of_source
+        (λ task source. (found : List ℕ) × HasTable w task found × Holding task source found)
+        (led.0, led.1, (table, has_table table holds, led.2))
+
     fails : w.faults.before ≤ faults → ((name : List ℕ) → w.own.before name ≤ own name)
         → (name : List ℕ) → Fails rest name → Fails w name
     fails later own_later name failed = record {
@@ -87,27 +103,25 @@ module _ (w : Work) (job : Job) (is_job : w.job ≡ Some job) where
 
     pub run_ends : w.faults.before ≤ faults → ((name : List ℕ) → w.own.before name ≤ own name)
         → (end : Result (Unit {0}) Stop) → TextEnds job.task text rest end → EndsBy w end
-    run_ends later own_later (Ok done) ends =
-        (ends.0, (job, is_job, (text, has, (ends.1.0, has_table ends.1.0 ends.1.1, ends.1.2))), ends.2)
-    run_ends later own_later (Err NotBuilt) ends = (inr (job, is_job, (text, has, ends.0)), ends.1)
-    run_ends later own_later (Err (Unread name)) ends =
-        ((inr (job, is_job, (text, has, (ends.0, ends.1))), fails later own_later name ends.2), ends.3)
+    run_ends later own_later (Ok done) ends = (
+      ends.0,
+      of_texts (λ task. IsOutputOf task ends.0) ends.1.0 ends.1.1 ends.1.2,
+      ends.2,
+    )
+    run_ends later own_later (Err NotBuilt) ends = (inr (of_source IsUnbuilt ends.0), ends.1)
+    run_ends later own_later (Err (Unread name)) ends = (
+      (
+        inr (of_source
+            (λ task source. (table_name task ≡ Some name) × IsAcceptable task source)
+            (ends.1.0, ends.1.1, (ends.0, ends.1.2))),
+        fails later own_later name ends.2,
+      ),
+      ends.3,
+    )
     run_ends later own_later (Err (Refused reason)) ends = elim ends.0 [
-      | inl refused ↦ (inl (job, is_job, (text, has, refused)), ends.1)
+      | inl refused ↦ (inl (of_source (λ task. IsRefusedBy task reason) refused), ends.1)
       | inr refused ↦ (
-        inr (
-          job,
-          is_job,
-          (
-            text,
-            has,
-            (
-              refused.0,
-              has_table refused.0 refused.1,
-              refused.2,
-            ),
-          ),
-        ),
+        inr (of_texts (λ task. IsTableRefusedBy task reason) refused.0 refused.1 refused.2),
         ends.1,
       )
     ]
@@ -115,7 +129,7 @@ module _ (w : Work) (job : Job) (is_job : w.job ≡ Some job) where
       (
         (
           ends.0,
-          (job, is_job, (text, has, (ends.1.0, has_table ends.1.0 ends.1.1, ends.1.2))),
+          of_texts (λ task. IsOutputOf task ends.0) ends.1.0 ends.1.1 ends.1.2,
           ends.2,
         ),
         ends.3,
@@ -142,5 +156,7 @@ module _ (w : Work) (job : Job) (is_job : w.job ≡ Some job) where
         record {
           most = omega arith;
           none = λ jobless. absurd cc;
-          second = inr (job, is_job, (text, has, (ap is_some twice.1, twice.2)));
+          second = inr (of_source
+              (λ task source. IsSome (table_name task) × IsAcceptable task source)
+              (twice.2.0, twice.2.1, (ap is_some twice.1, twice.2.2)));
         }

@@ -1,11 +1,14 @@
 -- The statuses of reasons that stand, and of all ends.
-use Rattle.std.proofs.Common.{◌≡◌, ◌≤◌, inl, inr, ℕ, List, Result, Ok, Err, refl, subst, arith}
+use Rattle.std.proofs.Common.{◌≡◌, ◌≤◌, inl, inr, ℕ, List, Result, Ok, Err, refl, sym, subst, arith}
 use Rattle.std.specs.Prelude.{◌≢◌}
+use Rattle.tptp_syntax.specs.RefusalNumbers.{number_of as read_number}
 use Rattle.tptp_syntax.specs.declared.error.ReadError.{ReadError}
 use Rattle.tptp_syntax.specs.declared.error.ReadError.TheVariants as reading
+use Rattle.tf_check.specs.RefusalNumbers.{number_of as type_number}
 use Rattle.tf_check.specs.declared.error.TypeError.{TypeError}
 use Rattle.tf_check.specs.declared.error.TypeError.TheVariants as typing
 use Rattle.tf_core.specs.declared.problem.Problem.{Problem}
+use Rattle.model_tables.specs.RefusalNumbers.{number_of as table_number}
 use Rattle.model_tables.specs.declared.error.TableError.{TableError}
 use Rattle.model_tables.specs.declared.error.TableError.TheVariants as table
 use Rattle.enc_marks.specs.declared.refusal.Refusal.TheVariants as refusal
@@ -13,10 +16,11 @@ use Rattle.enc_pipeline.specs.declared.fault.Fault.{Fault}
 use Rattle.enc_pipeline.specs.declared.fault.Fault.TheVariants as fault
 use Rattle.enc_pipeline.specs.Carried.{IsNoModel, IsUnlowered, IsUnlifted}
 use Rattle.enc_pipeline.specs.Way.{Preparation}
-use Rattle.enc_run.specs.Ending.{EndsBy, IsRefused, status_at}
-use Rattle.enc_run.specs.Leads.{IsRefusedBy, RefusesTable, preparation}
+use Rattle.enc_run.specs.Texts.{IsRefused}
+use Rattle.enc_run.specs.Calls.Ending.{EndsBy, status_at}
+use Rattle.enc_run.specs.Leads.{Lead, LeadsTo, IsTooLarge, IsRefusedBy, IsTableRefusedBy, RefusesTable, preparation}
 use Rattle.enc_run.specs.Promises.{IsOfRefusal, IsStatus}
-use Rattle.enc_run.specs.Refusals.{status_of, reading_status, typing_status, table_status}
+use Rattle.enc_run.specs.Statuses.{status_by, status_of_refusal}
 use Rattle.enc_run.specs.Work.{Work}
 use Rattle.enc_run.specs.declared.job.Task.{Task}
 use Rattle.enc_run.specs.declared.job.Task.TheVariants.{Encode, Check, Lower, Lift}
@@ -28,48 +32,71 @@ End = Result (Unit {0}) Stop
 
 -- ---- problems' texts
 
-reading_statuses : (reason : ReadError) → IsOfRefusal (reading_status reason)
-reading_statuses (reading.TooDeep at) = inr (inr refl)
-reading_statuses (reading.TooLong bytes) = inr (inr refl)
-reading_statuses (reading.BadByte at) = inl refl
-reading_statuses (reading.Unclosed at) = inl refl
-reading_statuses (reading.Syntax at) = inl refl
-reading_statuses (reading.Language at) = inl refl
-reading_statuses (reading.Role at) = inl refl
-reading_statuses (reading.Number at) = inl refl
-reading_statuses (reading.DistinctObject at) = inl refl
-reading_statuses (reading.Include at) = inl refl
-reading_statuses reading.Memory = inl refl
+reading_statuses : (reason : ReadError) → reason ≢ reading.Memory
+    → IsOfRefusal (status_by (read_number reason))
+reading_statuses (reading.BadByte at) lacks = inl refl
+reading_statuses (reading.Unclosed at) lacks = inl refl
+reading_statuses (reading.Syntax at) lacks = inl refl
+reading_statuses (reading.TooDeep at) lacks = inr (inr refl)
+reading_statuses (reading.Language at) lacks = inl refl
+reading_statuses (reading.Role at) lacks = inl refl
+reading_statuses (reading.Number at) lacks = inl refl
+reading_statuses (reading.DistinctObject at) lacks = inl refl
+reading_statuses (reading.Include at) lacks = inl refl
+reading_statuses (reading.TooLong bytes) lacks = inr (inr refl)
+reading_statuses reading.Memory lacks = absurd (lacks refl)
 
-typing_statuses : (reason : TypeError) → IsOfRefusal (typing_status reason)
-typing_statuses (typing.TooManySymbols count) = inr (inr refl)
-typing_statuses (typing.Redeclared entry name) = inl refl
-typing_statuses (typing.BadDeclaration entry) = inl refl
-typing_statuses (typing.UnknownType entry name) = inl refl
-typing_statuses (typing.FreeVariable entry name) = inl refl
-typing_statuses (typing.Arity entry name expected found) = inl refl
-typing_statuses (typing.Mismatch entry expected found) = inl refl
-typing_statuses (typing.NotATerm entry name) = inl refl
-typing_statuses (typing.NotAFormula entry name) = inl refl
-typing_statuses (typing.TypeQuantifier entry) = inl refl
-typing_statuses (typing.SecondConjecture entry) = inl refl
-typing_statuses typing.Memory = inl refl
+typing_statuses : (reason : TypeError) → reason ≢ typing.Memory
+    → IsOfRefusal (status_by (type_number reason))
+typing_statuses (typing.Redeclared entry name) lacks = inl refl
+typing_statuses (typing.BadDeclaration entry) lacks = inl refl
+typing_statuses (typing.UnknownType entry name) lacks = inl refl
+typing_statuses (typing.FreeVariable entry name) lacks = inl refl
+typing_statuses (typing.Arity entry name expected found) lacks = inl refl
+typing_statuses (typing.Mismatch entry expected found) lacks = inl refl
+typing_statuses (typing.NotATerm entry name) lacks = inl refl
+typing_statuses (typing.NotAFormula entry name) lacks = inl refl
+typing_statuses (typing.TypeQuantifier entry) lacks = inl refl
+typing_statuses (typing.SecondConjecture entry) lacks = inl refl
+typing_statuses (typing.TooManySymbols count) lacks = inr (inr refl)
+typing_statuses typing.Memory lacks = absurd (lacks refl)
 
-text_statuses : (task : Task) (reason : Fault) (text : List ℕ) → IsRefusedBy task reason text
-    → IsOfRefusal (status_of reason)
-text_statuses task (fault.Reading reason) text refused = reading_statuses reason
-text_statuses task (fault.Typing reason) text refused = typing_statuses reason
-text_statuses task (fault.TooLarge nodes) text refused = inr (inr refl)
-text_statuses task (fault.Scheme reason) text refused = absurd refused
-text_statuses task fault.Incomplete text refused = absurd refused
-text_statuses task (fault.Table reason) text refused = absurd refused
-text_statuses task (fault.NotModel formula) text refused = absurd refused
-text_statuses task fault.Write text refused = absurd refused
-text_statuses task fault.Memory text refused = absurd refused
+reason_statuses : (text : List ℕ) (reason : Fault) → LeadsTo text (Err reason)
+    → IsOfRefusal (status_of_refusal reason)
+reason_statuses text (fault.Reading reason) leads = reading_statuses reason leads.1.0
+reason_statuses text (fault.Typing reason) leads = typing_statuses reason leads.1.0
+reason_statuses text (fault.TooLarge nodes) leads = absurd leads.1
+reason_statuses text (fault.Scheme reason) leads = absurd leads.1
+reason_statuses text fault.Incomplete leads = absurd leads.1
+reason_statuses text (fault.Table reason) leads = absurd leads.1
+reason_statuses text (fault.NotModel formula) leads = absurd leads.1
+reason_statuses text fault.Write leads = absurd leads.1
+reason_statuses text fault.Memory leads = absurd (leads.0 refl)
+
+large_statuses : (task : Task) (problem : Problem) (reason : Fault) → IsTooLarge task problem reason
+    → IsOfRefusal (status_of_refusal reason)
+large_statuses task problem (fault.TooLarge nodes) large = inr (inr refl)
+large_statuses task problem (fault.Reading reason) large = absurd large
+large_statuses task problem (fault.Typing reason) large = absurd large
+large_statuses task problem (fault.Scheme reason) large = absurd large
+large_statuses task problem fault.Incomplete large = absurd large
+large_statuses task problem (fault.Table reason) large = absurd large
+large_statuses task problem (fault.NotModel formula) large = absurd large
+large_statuses task problem fault.Write large = absurd large
+large_statuses task problem fault.Memory large = absurd large
+
+source_statuses : (task : Task) (text : List ℕ) (source : Lead) (reason : Fault)
+    → LeadsTo text source → IsRefusedBy task reason source → IsOfRefusal (status_of_refusal reason)
+source_statuses task text (Ok problem) reason leads refused =
+    large_statuses task problem reason refused
+source_statuses task text (Err other) reason leads refused =
+    subst (λ (r : Fault). IsOfRefusal (status_of_refusal r)) (sym refused)
+    (reason_statuses text other leads)
 
 -- ---- tables
 
-table_statuses : (reason : TableError) → reason ≢ table.Memory → IsOfRefusal (table_status reason)
+table_statuses : (reason : TableError) → reason ≢ table.Memory
+    → IsOfRefusal (status_by (table_number reason))
 table_statuses (table.TableSyntax at) lacks = inr (inl refl)
 table_statuses (table.UnknownSymbol name) lacks = inr (inl refl)
 table_statuses (table.Missing name) lacks = inr (inl refl)
@@ -80,7 +107,7 @@ table_statuses (table.TooLarge entries) lacks = inr (inr refl)
 table_statuses table.Memory lacks = absurd (lacks refl)
 
 no_model_statuses : (problem : Problem) (text : List ℕ) (reason : Fault)
-    → IsNoModel problem text reason → IsOfRefusal (status_of reason)
+    → IsNoModel problem text reason → IsOfRefusal (status_of_refusal reason)
 no_model_statuses problem text (fault.Table reason) refuses = table_statuses reason refuses.0
 no_model_statuses problem text (fault.NotModel formula) refuses = inr (inl refl)
 no_model_statuses problem text (fault.Reading reason) refuses = absurd refuses
@@ -92,7 +119,7 @@ no_model_statuses problem text fault.Write refuses = absurd refuses
 no_model_statuses problem text fault.Memory refuses = absurd refuses
 
 unlowered_statuses : (p : Preparation) (text : List ℕ) (reason : Fault)
-    → IsUnlowered p text reason → IsOfRefusal (status_of reason)
+    → IsUnlowered p text reason → IsOfRefusal (status_of_refusal reason)
 unlowered_statuses p text (fault.Table reason) refuses = table_statuses reason refuses.0
 unlowered_statuses p text (fault.NotModel formula) refuses = inr (inl refl)
 unlowered_statuses p text (fault.Scheme (refusal.TableTooLarge entries)) refuses = inr (inr refl)
@@ -107,7 +134,7 @@ unlowered_statuses p text fault.Write refuses = absurd refuses
 unlowered_statuses p text fault.Memory refuses = absurd refuses
 
 unlifted_statuses : (p : Preparation) (text : List ℕ) (reason : Fault)
-    → IsUnlifted p text reason → IsOfRefusal (status_of reason)
+    → IsUnlifted p text reason → IsOfRefusal (status_of_refusal reason)
 unlifted_statuses p text (fault.Table reason) refuses = table_statuses reason refuses.0
 unlifted_statuses p text (fault.NotModel formula) refuses = inr (inl refl)
 unlifted_statuses p text (fault.Scheme (refusal.TableTooLarge entries)) refuses = inr (inr refl)
@@ -122,23 +149,29 @@ unlifted_statuses p text fault.Write refuses = absurd refuses
 unlifted_statuses p text fault.Memory refuses = absurd refuses
 
 refusal_statuses : (task : Task) (problem : Problem) (text : List ℕ) (reason : Fault)
-    → RefusesTable task problem text reason → IsOfRefusal (status_of reason)
-refusal_statuses (Encode which) problem text reason refuses = absurd refuses
+    → RefusesTable task problem text reason → IsOfRefusal (status_of_refusal reason)
+refusal_statuses (Encode how) problem text reason refuses = absurd refuses
 refusal_statuses (Check name) problem text reason refuses =
     no_model_statuses problem text reason refuses
-refusal_statuses (Lower name which) problem text reason refuses =
-    unlowered_statuses (preparation which problem) text reason refuses
-refusal_statuses (Lift name which) problem text reason refuses =
-    unlifted_statuses (preparation which problem) text reason refuses
+refusal_statuses (Lower name how) problem text reason refuses =
+    unlowered_statuses (preparation how problem) text reason refuses
+refusal_statuses (Lift name how) problem text reason refuses =
+    unlifted_statuses (preparation how problem) text reason refuses
+
+table_refusal_statuses : (task : Task) (source : Lead) (table : List ℕ) (reason : Fault)
+    → IsTableRefusedBy task reason source table → IsOfRefusal (status_of_refusal reason)
+table_refusal_statuses task (Ok problem) table reason refused =
+    refusal_statuses task problem table reason refused.1
+table_refusal_statuses task (Err other) table reason refused = absurd refused
 
 -- ---- all ends
 
 -- a reason that stands has the status of a refusal
 pub is_of_refusal : (w : Work) (reason : Fault) → IsRefused w reason
-    → IsOfRefusal (status_of reason)
+    → IsOfRefusal (status_of_refusal reason)
 is_of_refusal w reason is_refused = elim is_refused [
-  | inl of ↦ text_statuses of.0.task reason of.2.0 of.2.2
-  | inr of ↦ refusal_statuses of.0.task of.2.2.2.0 of.2.2.0 reason of.2.2.2.2
+  | inl of ↦ source_statuses of.0.task of.2.1.0 of.2.0 reason of.2.1.2 of.2.2
+  | inr of ↦ table_refusal_statuses of.0.task of.2.0 of.2.2.0 reason of.2.2.2
 ]
 
 between : (status : ℕ) → IsOfRefusal status → (1 ≤ status) × (status ≤ 5)
@@ -148,7 +181,7 @@ between status (inr (inr is)) = (omega arith, omega arith)
 
 -- which is none of another end's
 pub not_refusal : (w : Work) (reason : Fault) (status : ℕ) → IsRefused w reason
-    → status_of reason ≡ status → (1 ≤ status → status ≤ 5 → ⊥) → ⊥
+    → status_of_refusal reason ≡ status → (1 ≤ status → status ≤ 5 → ⊥) → ⊥
 not_refusal w reason status is_refused is other =
     let bounds = between status (subst IsOfRefusal is (is_of_refusal w reason is_refused)) in
     other bounds.0 bounds.1
@@ -169,7 +202,7 @@ is_status w (Err NotBuilt) ends = inr (inr (inr (inr (inr (inr (inr refl))))))
 
 -- an end with such a status is that of a reason that stands
 pub only_refused : (w : Work) (end : End) → EndsBy w end → IsOfRefusal (status_at end)
-    → (reason : Fault) × IsRefused w reason × (status_of reason ≡ status_at end)
+    → (reason : Fault) × IsRefused w reason × (status_of_refusal reason ≡ status_at end)
     × (end ≡ Err (Refused reason))
 only_refused w (Err (Refused reason)) ends is = (reason, ends.0, refl, refl)
 only_refused w (Ok done) ends is = let bounds = between 0 is in absurd (omega arith)

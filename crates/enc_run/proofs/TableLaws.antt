@@ -1,19 +1,22 @@
 -- What a table's text leads to for a problem: one thing alone, and what is carried is a model.
-use Rattle.std.proofs.Common.{◌≡◌, ◌≤◌, ℕ, true, List, refl, sym, subst}
+use Rattle.std.proofs.Common.{◌≡◌, ◌≤◌, ℕ, true, List, refl}
 use Rattle.tf_check.proofs.SoundFiles.{typed_sound}
 use Rattle.tf_core.specs.declared.problem.Problem.{Problem}
 use Rattle.tf_nnf.specs.Refusal.{most_nodes}
 use Rattle.enc_marks.specs.declared.scheme.Scheme.{Scheme}
-use Rattle.enc_marks.specs.declared.scheme.Scheme.TheVariants as scheme
 use Rattle.enc_pipeline.specs.declared.fault.Fault.{Fault}
 use Rattle.enc_pipeline.specs.Carried.{translation}
+use Rattle.enc_pipeline.specs.declared.how.How.{How}
 use Rattle.enc_pipeline.specs.Causes.{nodes_of}
+use Rattle.enc_pipeline.specs.Output.{translated}
+use Rattle.enc_pipeline.specs.Way.{is_built}
 use Rattle.enc_pipeline.specs.Reading.{HasProblem}
 use Rattle.enc_pipeline.specs.Ready.{IsPrepared}
+use Rattle.enc_pipeline.proofs.Built.{each_built}
 use Rattle.enc_pipeline.proofs.DistinctNames.{has_distinct_names}
 use Rattle.enc_pipeline.proofs.FileProblems.{is_within, has_writable_names}
 use Rattle.enc_pipeline.proofs.OneAnswer.{checking_has_one_answer, lowering_has_one_answer, lifting_has_one_answer}
-use Rattle.enc_run.specs.Leads.{RefusesTable, Writes, carries, preparation, untyped_problem}
+use Rattle.enc_run.specs.Leads.{RefusesTable, Writes, preparation, untyped_problem}
 use Rattle.enc_run.specs.declared.job.Task.{Task}
 use Rattle.enc_run.specs.declared.job.Task.TheVariants.{Encode, Check, Lower, Lift}
 
@@ -22,55 +25,44 @@ use Rattle.enc_run.specs.declared.job.Task.TheVariants.{Encode, Check, Lower, Li
 -- a table is refused for one reason
 pub one_refusal : (task : Task) (problem : Problem) (table : List ℕ) (a b : Fault)
     → RefusesTable task problem table a → RefusesTable task problem table b → a ≡ b
-one_refusal (Encode which) problem table a b is_a is_b = absurd is_a
+one_refusal (Encode how) problem table a b is_a is_b = absurd is_a
 one_refusal (Check name) problem table a b is_a is_b =
     (checking_has_one_answer problem table).one_refusal a b is_a is_b
-one_refusal (Lower name which) problem table a b is_a is_b =
-    (lowering_has_one_answer (preparation which problem) table).one_refusal a b is_a is_b
-one_refusal (Lift name which) problem table a b is_a is_b =
-    (lifting_has_one_answer (preparation which problem) table).one_refusal a b is_a is_b
+one_refusal (Lower name how) problem table a b is_a is_b =
+    (lowering_has_one_answer (preparation how problem) table).one_refusal a b is_a is_b
+one_refusal (Lift name how) problem table a b is_a is_b =
+    (lifting_has_one_answer (preparation how problem) table).one_refusal a b is_a is_b
 
 -- nothing is written for a table that is refused
 pub not_both : (task : Task) (problem : Problem) (table : List ℕ) (reason : Fault)
     (output : List ℕ) → RefusesTable task problem table reason → Writes task problem table output
     → ⊥
-not_both (Encode which) problem table reason output refused written = refused
+not_both (Encode how) problem table reason output refused written = refused
 not_both (Check name) problem table reason output refused written =
     (checking_has_one_answer problem table).not_both reason output refused written
-not_both (Lower name which) problem table reason output refused written =
-    (lowering_has_one_answer (preparation which problem) table).not_both reason output refused
+not_both (Lower name how) problem table reason output refused written =
+    (lowering_has_one_answer (preparation how problem) table).not_both reason output refused
     written
-not_both (Lift name which) problem table reason output refused written =
-    (lifting_has_one_answer (preparation which problem) table).not_both reason output refused written
+not_both (Lift name how) problem table reason output refused written =
+    (lifting_has_one_answer (preparation how problem) table).not_both reason output refused written
 
 -- ---- what is carried
 
--- only `guards` carries models yet
-only_guards : (which : Scheme) → carries which ≡ true → which ≡ scheme.Guards
-only_guards scheme.Guards carried = refl
-only_guards scheme.Tags carried = absurd cc
-only_guards scheme.GuardsCover carried = absurd cc
-only_guards scheme.TagsCover carried = absurd cc
-only_guards scheme.Args carried = absurd cc
-only_guards scheme.Erase carried = absurd cc
-only_guards scheme.GuardsLight carried = absurd cc
-only_guards scheme.TagsLight carried = absurd cc
-
 -- models are carried to the translation that is written
-pub carried_as_encoded : (which : Scheme) (problem : Problem) → carries which ≡ true
-    → translation (preparation which problem) ≡ untyped_problem which problem
-carried_as_encoded which problem carried =
-    subst (λ (s : Scheme). translation (preparation s problem) ≡ untyped_problem s problem)
-    (sym (only_guards which carried)) refl
+pub carried_as_encoded : (how : How) (problem : Problem) → is_built how.scheme ≡ true
+    → translation (preparation how problem) ≡ untyped_problem how.scheme problem
+carried_as_encoded how problem built =
+    each_built (λ (s : Scheme). (translated s problem).problem ≡ untyped_problem s problem) refl
+    how.scheme built
 
--- a text's problem within the limit is prepared for a scheme that carries models
-pub is_prepared : (which : Scheme) (text : List ℕ) (problem : Problem) → HasProblem text problem
-    → carries which ≡ true → nodes_of problem ≤ most_nodes
-    → IsPrepared (preparation which problem)
-is_prepared which text problem has carried within = record {
+-- a text's problem within the limit is prepared in a way that is built
+pub is_prepared : (how : How) (text : List ℕ) (problem : Problem) → HasProblem text problem
+    → is_built how.scheme ≡ true → nodes_of problem ≤ most_nodes
+    → IsPrepared (preparation how problem)
+is_prepared how text problem has built within = record {
   sound = typed_sound has.0 problem (is_within text has.0 has.1) has.2;
   named = has_writable_names text problem has;
   distinct = has_distinct_names text problem has;
   within = within;
-  built = record { scheme = only_guards which carried; mono = refl };
+  built = built;
 }

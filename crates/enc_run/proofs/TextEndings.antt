@@ -1,25 +1,29 @@
 -- How the end of a part of a task on a problem's text makes the end of the task.
-use Rattle.std.proofs.Common.{◌≡◌, ◌∙◌, inl, inr, ℕ, List, Option, Some, Result, Ok, Err, true, refl, sym, ap, subst}
-use Rattle.std.specs.Prelude.{[], IsErr, IsErrAnd}
+use Rattle.std.proofs.Common.{◌≡◌, ◌≤◌, ◌∙◌, inl, inr, ℕ, List, Option, Some, Result, Ok, Err, true, refl, sym, ap, subst}
+use Rattle.std.specs.Prelude.{[]}
 use Rattle.std.specs.Io.KnownBytes.{Appends}
 use Rattle.enc_base.specs.Library.{IsHeld}
 use Rattle.tf_core.specs.declared.problem.Problem.{Problem}
 use Rattle.enc_marks.specs.declared.refusal.Refusal.TheVariants as refusal
+use Rattle.tf_nnf.specs.Refusal.{most_nodes}
+use Rattle.fof_models.specs.declared.problem.FofProblem.{FofProblem}
 use Rattle.enc_marks.specs.declared.scheme.Scheme.{Scheme}
 use Rattle.enc_marks.specs.declared.scheme.Scheme.TheVariants as scheme
 use Rattle.enc_pipeline.specs.Carried.{IsLoweredTo, IsUnlowered, IsLiftedTo, IsUnlifted}
-use Rattle.enc_pipeline.specs.Causes.{IsUnreadable, IsUnprepared}
-use Rattle.enc_pipeline.specs.Output.{output_of}
+use Rattle.enc_pipeline.specs.Causes.{IsUnreadable, IsUnprepared, nodes_of}
+use Rattle.enc_pipeline.specs.Output.{output, output_of, translated}
 use Rattle.enc_pipeline.specs.Reading.{HasProblem}
 use Rattle.enc_pipeline.specs.Stopped.{IsStopped}
-use Rattle.enc_pipeline.specs.Way.{Preparation}
+use Rattle.enc_pipeline.specs.Way.{Preparation, is_built, plain_way}
+use Rattle.enc_pipeline.specs.declared.how.How.{How}
 use Rattle.enc_pipeline.specs.declared.fault.Fault.{Fault}
 use Rattle.enc_pipeline.specs.declared.fault.Fault.TheVariants as fault
-use Rattle.enc_run.specs.Ending.{IsUnread}
+use Rattle.enc_pipeline.proofs.Built.{each_built, only_guards}
+use Rattle.enc_run.specs.Calls.Ending.{IsUnread}
 use Rattle.enc_run.specs.Job.{table_name}
-use Rattle.enc_run.specs.Leads.{is_taken, is_normalised, IsAccepted, IsAcceptable, IsOutputOf}
-use Rattle.enc_run.specs.Leads.{RefusesTable, Writes, preparation, untyped_problem}
-use Rattle.enc_run.specs.Parts.{ProblemEnds, IsWritten, EncodingEnds, HasPrepared, TextStops, TextEnds}
+use Rattle.enc_run.specs.Leads.{is_taken, is_normalised, IsAccepted, IsAcceptable}
+use Rattle.enc_run.specs.Leads.{RefusesTable, Writes, encodes, preparation, untyped_problem}
+use Rattle.enc_run.specs.Calls.Parts.{Led, LedToOutput, ProblemEnds, ProblemStops, IsWritten, EncodingEnds, HasPrepared, TextStops, TextEnds}
 use Rattle.enc_run.specs.Stop.{stop_of}
 use Rattle.enc_run.specs.Work.{Change, Work, Rises, OwnRises, Untouched, HasText, HasTable}
 use Rattle.enc_run.specs.declared.job.Task.{Task}
@@ -27,17 +31,13 @@ use Rattle.enc_run.specs.declared.job.Task.TheVariants.{Encode, Check, Lower, Li
 use Rattle.enc_run.specs.declared.stop.Stop.{Stop}
 use Rattle.enc_run.specs.declared.stop.Stop.TheVariants.{NotBuilt, Unread, Refused, Unwritten, Memory}
 
--- what an error that is handed on ends with
-pub handed_on : {A E : Type 0} (Ends : Result A E → Type 0) (result : Result A E) (error : E)
-    → IsErr result × IsErrAnd result (λ other. other ≡ error) → Ends (Err error) → Ends result
-handed_on Ends (Ok value) error on ends = absurd on.1
-handed_on Ends (Err other) error on ends = subst (λ e. Ends (Err e)) (sym on.1) ends
-
 -- a text that has no problem stops each task
 pub unreadable_stops : (task : Task) (text : List ℕ) (reason : Fault) → IsUnreadable text reason
     → TextStops task text (stop_of reason)
-unreadable_stops task text (fault.Reading reason) unread = unread
-unreadable_stops task text (fault.Typing reason) unread = unread
+unreadable_stops task text (fault.Reading reason) unread =
+    (Err (fault.Reading reason), (λ is. cc, unread), refl)
+unreadable_stops task text (fault.Typing reason) unread =
+    (Err (fault.Typing reason), (λ is. cc, unread), refl)
 unreadable_stops task text (fault.TooLarge nodes) unread = absurd unread
 unreadable_stops task text (fault.Scheme reason) unread = absurd unread
 unreadable_stops task text fault.Incomplete unread = absurd unread
@@ -46,27 +46,35 @@ unreadable_stops task text (fault.NotModel formula) unread = absurd unread
 unreadable_stops task text fault.Write unread = absurd unread
 unreadable_stops task text fault.Memory unread = tt
 
--- a problem that can't be prepared for `guards` stops each task that rests on its normal problem
+-- a problem that can't be prepared in a way that is built stops each task that rests on its normal
+-- problem
 module _ (task : Task) (text : List ℕ) (problem : Problem) (has : HasProblem text problem)
     (taken : is_taken task problem ≡ true) (normalised : is_normalised task ≡ true) where
-  pub unprepared_stops : (reason : Fault)
-      → IsUnprepared problem (preparation scheme.Guards problem).how reason
+  at_guards : (reason : Fault)
+      → IsUnprepared problem (plain_way scheme.Guards) reason
       → TextStops task text (stop_of reason)
-  unprepared_stops (fault.Reading reason) why = absurd why
-  unprepared_stops (fault.Typing reason) why = absurd why
-  unprepared_stops (fault.TooLarge nodes) why =
-      (problem, has, taken, normalised, why.0, why.1)
-  unprepared_stops (fault.Scheme (refusal.NotMonomorphic name)) why =
+  at_guards (fault.Reading reason) why = absurd why
+  at_guards (fault.Typing reason) why = absurd why
+  at_guards (fault.TooLarge nodes) why =
+      (Ok problem, has, (taken, normalised, why.0, why.1))
+  at_guards (fault.Scheme (refusal.NotMonomorphic name)) why =
       let asks = why.2.0 in absurd cc
-  unprepared_stops (fault.Scheme (refusal.NotMonotone place)) why =
+  at_guards (fault.Scheme (refusal.NotMonotone place)) why =
       let none = why.2.1 in absurd cc
-  unprepared_stops (fault.Scheme (refusal.TableTooLarge entries)) why = absurd why.1
-  unprepared_stops (fault.Scheme refusal.Memory) why = absurd why.1
-  unprepared_stops fault.Incomplete why = absurd why
-  unprepared_stops (fault.Table reason) why = absurd why
-  unprepared_stops (fault.NotModel formula) why = absurd why
-  unprepared_stops fault.Write why = absurd why
-  unprepared_stops fault.Memory why = tt
+  at_guards (fault.Scheme (refusal.TableTooLarge entries)) why = absurd why.1
+  at_guards (fault.Scheme refusal.Memory) why = absurd why.1
+  at_guards fault.Incomplete why = absurd why
+  at_guards (fault.Table reason) why = absurd why
+  at_guards (fault.NotModel formula) why = absurd why
+  at_guards fault.Write why = absurd why
+  at_guards fault.Memory why = tt
+
+  pub unprepared_stops : (how : How) → is_built how.scheme ≡ true → how ≡ plain_way how.scheme
+      → (reason : Fault) → IsUnprepared problem how reason → TextStops task text (stop_of reason)
+  unprepared_stops how built plain reason why =
+      let guards : how ≡ plain_way scheme.Guards =
+      plain ∙ ap plain_way (only_guards how.scheme built) in
+      at_guards reason (subst (λ (h : How). IsUnprepared problem h reason) guards why)
 
 module _ (task : Task) (text : List ℕ) (w : Work) where
   -- the task is stopped by its problem's text
@@ -79,7 +87,7 @@ module _ (task : Task) (text : List ℕ) (w : Work) where
   text_stopped Memory stops kept = kept
 
   -- the task is stopped by the read of its table
-  pub table_unread : (name : List ℕ) → table_name task ≡ Some name → IsAcceptable task text
+  pub table_unread : (name : List ℕ) → table_name task ≡ Some name → Led text (IsAcceptable task)
       → (stop : Stop) → IsUnread name (Rises w.faults) (IsHeld w.held name → OwnRises w name) stop
       → Untouched w.out w.out_faults → TextEnds task text w (Err stop)
   table_unread name is accepted NotBuilt why kept = absurd why
@@ -94,93 +102,150 @@ module _ (task : Task) (text : List ℕ) (w : Work) where
   table_unread name is accepted Unwritten why kept = absurd why
   table_unread name is accepted Memory why kept = kept
 
-  module _ (problem : Problem) (accepted : IsAccepted task text problem) (table : List ℕ)
-      (has : HasTable w task table) where
+  module _ (problem : Problem) (leads : HasProblem text problem)
+      (accepted : IsAccepted task problem) (table : List ℕ) (has : HasTable w task table) where
     -- the task is stopped by its table, or in writing
     pub table_stopped : (reason : Fault)
         → IsStopped (RefusesTable task problem table) (Writes task problem table)
         w.out.before w.out.after w.out_faults.before w.out_faults.after reason
         → TextEnds task text w (Err (stop_of reason))
     table_stopped (fault.Reading reason) stopped =
-        (inr (table, has, (problem, accepted, stopped.0)), (stopped.1, stopped.2))
+        (inr (table, has, (Ok problem, leads, (accepted, stopped.0))), (stopped.1, stopped.2))
     table_stopped (fault.Typing reason) stopped =
-        (inr (table, has, (problem, accepted, stopped.0)), (stopped.1, stopped.2))
+        (inr (table, has, (Ok problem, leads, (accepted, stopped.0))), (stopped.1, stopped.2))
     table_stopped (fault.TooLarge nodes) stopped =
-        (inr (table, has, (problem, accepted, stopped.0)), (stopped.1, stopped.2))
+        (inr (table, has, (Ok problem, leads, (accepted, stopped.0))), (stopped.1, stopped.2))
     table_stopped (fault.Scheme reason) stopped =
-        (inr (table, has, (problem, accepted, stopped.0)), (stopped.1, stopped.2))
+        (inr (table, has, (Ok problem, leads, (accepted, stopped.0))), (stopped.1, stopped.2))
     table_stopped fault.Incomplete stopped =
-        (inr (table, has, (problem, accepted, stopped.0)), (stopped.1, stopped.2))
+        (inr (table, has, (Ok problem, leads, (accepted, stopped.0))), (stopped.1, stopped.2))
     table_stopped (fault.Table reason) stopped =
-        (inr (table, has, (problem, accepted, stopped.0)), (stopped.1, stopped.2))
+        (inr (table, has, (Ok problem, leads, (accepted, stopped.0))), (stopped.1, stopped.2))
     table_stopped (fault.NotModel formula) stopped =
-        (inr (table, has, (problem, accepted, stopped.0)), (stopped.1, stopped.2))
+        (inr (table, has, (Ok problem, leads, (accepted, stopped.0))), (stopped.1, stopped.2))
     table_stopped fault.Write stopped =
-        (stopped.1.0, (table, has, (problem, accepted, stopped.1.1)), stopped.1.2, stopped.0)
+        (stopped.1.0, (table, has, (Ok problem, leads, (accepted, stopped.1.1))), stopped.1.2, stopped.0)
     table_stopped fault.Memory stopped = stopped
 
     -- the task is done
     pub done : (output : List ℕ) → Writes task problem table output
         → Appends w.out.before w.out.after output → TextEnds task text w (Ok tt)
-    done output writes written = (output, (table, has, (problem, accepted, writes)), written)
+    done output writes written = (output, (table, has, (Ok problem, leads, (accepted, writes))), written)
 
 -- ---- check
 
 -- each problem is accepted to be checked
-pub checked : (name text : List ℕ) (problem : Problem) → HasProblem text problem
-    → IsAccepted (Check name) text problem
-checked name text problem has =
-    record { has = has; taken = refl; within = λ normalised. absurd cc }
+pub checked : (name : List ℕ) (problem : Problem) → IsAccepted (Check name) problem
+checked name problem = record { taken = refl; within = λ normalised. absurd cc }
 
 -- ---- lower and lift
 
-module _ (which : Scheme) (name text : List ℕ) (p : Preparation) (is : HasPrepared which text p)
+module _ (how : How) (name text : List ℕ) (p : Preparation) (is : HasPrepared how text p)
   where
-    pub lowered : IsAccepted (Lower name which) text is.problem
-    lowered = record { has = is.has; taken = is.taken; within = λ normalised. is.within }
+    lowered : IsAccepted (Lower name how) is.problem
+    lowered = record { taken = is.taken; within = λ normalised. is.within }
 
-    pub lifted : IsAccepted (Lift name which) text is.problem
-    lifted = record { has = is.has; taken = is.taken; within = λ normalised. is.within }
+    pub lowerable : Led text (IsAcceptable (Lower name how))
+    lowerable = (Ok is.problem, is.has, lowered)
+
+    lifted : IsAccepted (Lift name how) is.problem
+    lifted = record { taken = is.taken; within = λ normalised. is.within }
+
+    pub liftable : Led text (IsAcceptable (Lift name how))
+    liftable = (Ok is.problem, is.has, lifted)
 
     module _ (w : Work) (table : List ℕ) (has : HasText w name table) where
       pub lowering_stopped : (reason : Fault)
           → IsStopped (IsUnlowered p table) (IsLoweredTo p table) w.out.before w.out.after
           w.out_faults.before w.out_faults.after reason
-          → TextEnds (Lower name which) text w (Err (stop_of reason))
+          → TextEnds (Lower name how) text w (Err (stop_of reason))
       lowering_stopped reason stopped =
-          table_stopped (Lower name which) text w is.problem lowered table has reason
+          table_stopped (Lower name how) text w is.problem is.has lowered table has reason
           (subst (λ q. IsStopped (IsUnlowered q table) (IsLoweredTo q table)
           w.out.before w.out.after w.out_faults.before w.out_faults.after reason) is.is stopped)
 
       pub lowering_done : (output : List ℕ) → IsLoweredTo p table output
-          → Appends w.out.before w.out.after output → TextEnds (Lower name which) text w (Ok tt)
+          → Appends w.out.before w.out.after output → TextEnds (Lower name how) text w (Ok tt)
       lowering_done output carried written =
-          done (Lower name which) text w is.problem lowered table has output
+          done (Lower name how) text w is.problem is.has lowered table has output
           (subst (λ q. IsLoweredTo q table output) is.is carried) written
 
       pub lifting_stopped : (reason : Fault)
           → IsStopped (IsUnlifted p table) (IsLiftedTo p table) w.out.before w.out.after
           w.out_faults.before w.out_faults.after reason
-          → TextEnds (Lift name which) text w (Err (stop_of reason))
+          → TextEnds (Lift name how) text w (Err (stop_of reason))
       lifting_stopped reason stopped =
-          table_stopped (Lift name which) text w is.problem lifted table has reason
+          table_stopped (Lift name how) text w is.problem is.has lifted table has reason
           (subst (λ q. IsStopped (IsUnlifted q table) (IsLiftedTo q table)
           w.out.before w.out.after w.out_faults.before w.out_faults.after reason) is.is stopped)
 
       pub lifting_done : (output : List ℕ) → IsLiftedTo p table output
-          → Appends w.out.before w.out.after output → TextEnds (Lift name which) text w (Ok tt)
+          → Appends w.out.before w.out.after output → TextEnds (Lift name how) text w (Ok tt)
       lifting_done output carried written =
-          done (Lift name which) text w is.problem lifted table has output
+          done (Lift name how) text w is.problem is.has lifted table has output
           (subst (λ q. IsLiftedTo q table output) is.is carried) written
 
 -- ---- encode
 
-module _ (which : Scheme) (text : List ℕ) (out : Change (Option (List ℕ))) (faults : Change ℕ) where
+-- the encoding of a problem in a way that is built
+module _ (how : How) (problem : Problem) (built : is_built how.scheme ≡ true) where
+  -- what isn't prepared stops it
+  pub unprepared : how ≡ plain_way how.scheme → (reason : Fault)
+      → IsUnprepared problem how reason → ProblemStops how.scheme problem (stop_of reason)
+  unprepared plain reason why =
+      each_built (λ (s : Scheme). ProblemStops s problem (stop_of reason))
+      (at_guards reason (subst (λ (h : How). IsUnprepared problem h reason) guards why))
+      how.scheme built
+    where
+      guards : how ≡ plain_way scheme.Guards
+      guards = plain ∙ ap plain_way (only_guards how.scheme built)
+
+      at_guards : (reason : Fault) → IsUnprepared problem (plain_way scheme.Guards) reason
+          → ProblemStops scheme.Guards problem (stop_of reason)
+      at_guards (fault.Reading reason) why = absurd why
+      at_guards (fault.Typing reason) why = absurd why
+      at_guards (fault.TooLarge nodes) why = (refl, why.0, why.1)
+      at_guards (fault.Scheme (refusal.NotMonomorphic name)) why =
+          let asks = why.2.0 in absurd cc
+      at_guards (fault.Scheme (refusal.NotMonotone place)) why =
+          let none = why.2.1 in absurd cc
+      at_guards (fault.Scheme (refusal.TableTooLarge entries)) why = absurd why.1
+      at_guards (fault.Scheme refusal.Memory) why = absurd why.1
+      at_guards fault.Incomplete why = absurd why
+      at_guards (fault.Table reason) why = absurd why
+      at_guards (fault.NotModel formula) why = absurd why
+      at_guards fault.Write why = absurd why
+      at_guards fault.Memory why = tt
+
+  -- so much of its output is so much of its encoding
+  pub written : (Part : List ℕ → Type 0) → nodes_of problem ≤ most_nodes
+      → Part (output (preparation how problem)) → IsWritten how.scheme problem Part
+  written Part within part = record {
+    taken = each_built (λ (s : Scheme). encodes s problem ≡ true) refl how.scheme built;
+    within = within;
+    written =
+        subst (λ (p : FofProblem). Part (output_of how.scheme p))
+        (each_built (λ (s : Scheme). (translated s problem).problem ≡ untyped_problem s problem)
+        refl how.scheme built) part;
+  }
+
+-- a problem that stops its encoding ends it
+module _ (which : Scheme) (problem : Problem) (out : Change (Option (List ℕ))) (faults : Change ℕ)
+  where
+    pub problem_stopped : (stop : Stop) → ProblemStops which problem stop → Untouched out faults
+        → ProblemEnds which problem out faults (Err stop)
+    problem_stopped NotBuilt stops kept = (stops, kept)
+    problem_stopped (Unread name) stops kept = absurd stops
+    problem_stopped (Refused reason) stops kept = (stops, kept)
+    problem_stopped Unwritten stops kept = absurd stops
+    problem_stopped Memory stops kept = (stops, kept)
+
+module _ (how : How) (text : List ℕ) (out : Change (Option (List ℕ))) (faults : Change ℕ) where
   abbrev pub Encodes : Result (Unit {0}) Stop → Type 0
-  Encodes = EncodingEnds which text out faults
+  Encodes = EncodingEnds how text out faults
 
   -- the encoding is stopped by its text
-  pub encoding_stopped : (stop : Stop) → TextStops (Encode which) text stop
+  pub encoding_stopped : (stop : Stop) → TextStops (Encode how) text stop
       → Untouched out faults → Encodes (Err stop)
   encoding_stopped NotBuilt stops kept = (stops, kept)
   encoding_stopped (Unread name) stops kept = absurd stops
@@ -189,23 +254,24 @@ module _ (which : Scheme) (text : List ℕ) (out : Change (Option (List ℕ))) (
   encoding_stopped Memory stops kept = kept
 
   module _ (problem : Problem) (has : HasProblem text problem) where
-    whole : {Part : List ℕ → Type 0} → IsWritten which problem Part
-        → IsOutputOf (Encode which) (output_of which (untyped_problem which problem)) text []
+    whole : {Part : List ℕ → Type 0} → IsWritten how.scheme problem Part
+        → LedToOutput (Encode how) (output_of how.scheme (untyped_problem how.scheme problem))
+        text []
     whole written = (
-      problem,
-      record { has = has; taken = written.taken; within = λ normalised. written.within },
-      refl,
+      Ok problem,
+      has,
+      (record { taken = written.taken; within = λ normalised. written.within }, refl),
     )
 
     -- the encoding of the text ends as that of its problem
-    pub encoding_ends : (end : Result (Unit {0}) Stop) → ProblemEnds which problem out faults end
+    pub encoding_ends : (end : Result (Unit {0}) Stop) → ProblemEnds how.scheme problem out faults end
         → Encodes end
     encoding_ends (Ok finished) ends =
-        (output_of which (untyped_problem which problem), whole ends, ends.written)
-    encoding_ends (Err NotBuilt) ends = ((problem, has, ends.0), ends.1)
+        (output_of how.scheme (untyped_problem how.scheme problem), whole ends, ends.written)
+    encoding_ends (Err NotBuilt) ends = ((Ok problem, has, ends.0), ends.1)
     encoding_ends (Err (Unread name)) ends = absurd ends.0
     encoding_ends (Err (Refused (fault.TooLarge nodes))) ends =
-        ((problem, has, ends.0.0, refl, ends.0.1, ends.0.2), ends.1)
+        ((Ok problem, has, (ends.0.0, refl, ends.0.1, ends.0.2)), ends.1)
     encoding_ends (Err (Refused (fault.Reading reason))) ends = absurd ends.0
     encoding_ends (Err (Refused (fault.Typing reason))) ends = absurd ends.0
     encoding_ends (Err (Refused (fault.Scheme reason))) ends = absurd ends.0
@@ -215,15 +281,15 @@ module _ (which : Scheme) (text : List ℕ) (out : Change (Option (List ℕ))) (
     encoding_ends (Err (Refused fault.Write)) ends = absurd ends.0
     encoding_ends (Err (Refused fault.Memory)) ends = absurd ends.0
     encoding_ends (Err Unwritten) ends =
-        (output_of which (untyped_problem which problem), whole ends.0, ends.0.written, ends.1)
+        (output_of how.scheme (untyped_problem how.scheme problem), whole ends.0, ends.0.written, ends.1)
     encoding_ends (Err Memory) ends = ends.1
 
 -- the task of encoding ends as the encoding
-pub encoded : (which : Scheme) (text : List ℕ) (w : Work) (end : Result (Unit {0}) Stop)
-    → EncodingEnds which text w.out w.out_faults end → TextEnds (Encode which) text w end
-encoded which text w (Ok finished) ends = (ends.0, ([], refl, ends.1), ends.2)
-encoded which text w (Err NotBuilt) ends = ends
-encoded which text w (Err (Unread name)) ends = absurd ends
-encoded which text w (Err (Refused reason)) ends = (inl ends.0, ends.1)
-encoded which text w (Err Unwritten) ends = (ends.0, ([], refl, ends.1), ends.2, ends.3)
-encoded which text w (Err Memory) ends = ends
+pub encoded : (how : How) (text : List ℕ) (w : Work) (end : Result (Unit {0}) Stop)
+    → EncodingEnds how text w.out w.out_faults end → TextEnds (Encode how) text w end
+encoded how text w (Ok finished) ends = (ends.0, ([], refl, ends.1), ends.2)
+encoded how text w (Err NotBuilt) ends = ends
+encoded how text w (Err (Unread name)) ends = absurd ends
+encoded how text w (Err (Refused reason)) ends = (inl ends.0, ends.1)
+encoded how text w (Err Unwritten) ends = (ends.0, ([], refl, ends.1), ends.2, ends.3)
+encoded how text w (Err Memory) ends = ends

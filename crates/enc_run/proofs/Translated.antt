@@ -10,7 +10,7 @@ use Rattle.fof_models.specs.declared.problem.FofProblem.{FofProblem}
 use Rattle.enc_pipeline.specs.Causes.{nodes_of}
 use Rattle.enc_run.specs.Plain.{is_plain}
 use Rattle.enc_run.specs.Erased.{erased}
-use Rattle.enc_run.specs.Parts.{IsTranslationOf}
+use Rattle.enc_run.specs.Calls.Parts.{IsTranslationOf}
 use Rattle.enc_run.proofs.ErasedSound.{IsSound-erased}
 use Rattle.enc_run.proofs.WritableNames.{named_translation}
 

@@ -16,7 +16,8 @@ use Rattle.fof_models.specs.declared.problem.FofSymbol.{FofSymbol}
 use Rattle.fof_models.specs.declared.problem.FofFormula.{FofFormula}
 use Rattle.fof_models.specs.Sound as untyped
 use Rattle.fof_text.specs.Names.{chosen_names}
-use Rattle.fof_text.specs.States.{IsWritable, AreNamed}
+use Rattle.enc_base.specs.Names.{IsWritable}
+use Rattle.fof_text.specs.States.{AreNamed}
 use Rattle.fof_text.proofs.Chosen.{names_are_names}
 use Rattle.enc_run.specs.Erased.{marks, numbers, marked, erased_symbol, erased_formula, erased}
 

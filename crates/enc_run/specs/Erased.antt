@@ -1,6 +1,7 @@
 -- The untyped problem of a plain normal problem: types are left out, and of the symbols those are
 -- kept that occur in a formula, in their order.
-use Rattle.std.specs.Prelude.{ℕ, Bool, true, false, ◌||◌, List, [], ◌∷◌, map, length, take, cond, eqb, slice_index, Option, Some, None}
+use Rattle.std.specs.Prelude.{ℕ, Bool, true, false, ◌||◌, List, [], ◌∷◌, map, length, take, cond}
+use Rattle.std.specs.Prelude.{eqb, slice_index, Option, Some, None}
 use Rattle.std.specs.List.{list_any, count_by, range_with_len}
 use Rattle.tf_core.specs.declared.ty.Ty.{Ty}
 use Rattle.tf_core.specs.declared.term.Term.{Term}

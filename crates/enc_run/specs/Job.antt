@@ -1,20 +1,23 @@
 -- What the words ask for.
-use Rattle.std.specs.Prelude.{ℕ, Bool, ◌&&◌, if◌then◌else◌, List, [], ◌∷◌, Option, Some, None, codes}
+use Rattle.std.specs.Prelude.{ℕ, Bool, ◌&&◌, if◌then◌else◌, List, [], ◌∷◌, Option, Some, None}
+use Rattle.std.specs.Prelude.{codes}
 use Rattle.std.specs.Option.{option_map}
 use Rattle.std.specs.Str.{bytes_eq}
 use Rattle.enc_marks.specs.declared.scheme.Scheme.{Scheme}
 use Rattle.enc_marks.specs.declared.scheme.Scheme.TheVariants as scheme
+use Rattle.enc_pipeline.specs.declared.how.How.{How}
 use Rattle.enc_pipeline.specs.Output.{scheme_name}
+use Rattle.enc_pipeline.specs.Way.{is_built, plain_way}
 use Rattle.enc_run.specs.declared.job.Job.{Job}
 use Rattle.enc_run.specs.declared.job.Task.{Task}
 use Rattle.enc_run.specs.declared.job.Task.TheVariants.{Encode, Check, Lower, Lift}
 
 -- the name of a task's table, where it has one
 abbrev pub table_name : Task → Option (List ℕ)
-table_name (Encode which) = None
+table_name (Encode how) = None
 table_name (Check table) = Some table
-table_name (Lower table which) = Some table
-table_name (Lift table which) = Some table
+table_name (Lower table how) = Some table
+table_name (Lift table how) = Some table
 
 -- the scheme of this name, where it is built
 abbrev pub scheme_of : List ℕ → Option Scheme
@@ -28,14 +31,19 @@ scheme_of name =
 abbrev pub encoding_of : List ℕ → Option Scheme → Option Task
 encoding_of action None = None
 encoding_of action (Some which) =
-    if bytes_eq action (codes "encode") then Some (Encode which) else None
+    if bytes_eq action (codes "encode") then Some (Encode (plain_way which)) else None
 
--- a model is carried, by a scheme for which that is built: `guards` alone
+-- a model is carried, in a way for which that is built
+abbrev pub carrying_in : List ℕ → List ℕ → How → Option Task
+carrying_in action table how =
+    if bytes_eq action (codes "lower") then Some (Lower table how)
+    else (if bytes_eq action (codes "lift") then Some (Lift table how) else None)
+
+-- a model is carried, by a scheme for which that is built
 abbrev pub carrying_of : List ℕ → List ℕ → Option Scheme → Option Task
-carrying_of action table (Some scheme.Guards) =
-    if bytes_eq action (codes "lower") then Some (Lower table scheme.Guards)
-    else (if bytes_eq action (codes "lift") then Some (Lift table scheme.Guards) else None)
-carrying_of action table _ = None
+carrying_of action table None = None
+carrying_of action table (Some which) =
+    if is_built which then carrying_in action table (plain_way which) else None
 
 -- a task with a table, where no scheme is named
 abbrev pub table_task_of : List ℕ → List ℕ → Option Task
@@ -65,8 +73,8 @@ abbrev pub job_of : List (List ℕ) → Option Job
 job_of (action ∷ problem ∷ []) = with_problem problem (encoding_of action (Some scheme.Guards))
 job_of (action ∷ problem ∷ table ∷ []) = with_both problem table (table_task_of action table)
 job_of (action ∷ problem ∷ option ∷ name ∷ []) =
-    if bytes_eq option (codes "--scheme") then with_problem problem (encoding_of action (scheme_of name))
-    else None
+    if bytes_eq option (codes "--scheme")
+    then with_problem problem (encoding_of action (scheme_of name)) else None
 job_of (action ∷ problem ∷ table ∷ option ∷ name ∷ []) =
     if bytes_eq option (codes "--scheme")
     then with_both problem table (carrying_of action table (scheme_of name)) else None

@@ -1,13 +1,13 @@
-pub mod Marks
 pub mod Plain
 pub mod Erased
 pub mod Job
-pub mod Refusals
 pub mod Leads
 pub mod Note
+pub mod Statuses
 pub mod Stop
 pub mod Work
-pub mod Ending
+pub mod Source
+pub mod Texts
 pub mod Promises
 pub mod TablePromises
-pub mod Parts
+pub mod Calls

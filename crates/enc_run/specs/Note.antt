@@ -1,9 +1,5 @@
 -- The lines that are written to the notes.
-use Rattle.std.specs.Prelude.{◌≡◌, ◌++◌, ℕ, List, codes, Option}
-use Rattle.enc_run.specs.Refusals.{number_of}
-use Rattle.enc_run.specs.Work.{Change, Adds}
-use Rattle.enc_run.specs.declared.stop.Stop.{Stop}
-use Rattle.enc_run.specs.declared.stop.Stop.TheVariants.{NotBuilt, Unread, Refused, Unwritten, Memory}
+use Rattle.std.specs.Prelude.{◌++◌, ℕ, List, [], codes, decimal, Option, Some, None}
 
 unfoldable pub program_word : List ℕ
 program_word = codes "tfenc: "
@@ -23,15 +19,7 @@ no_memory = codes "no memory"
 abbrev pub line : List ℕ → List ℕ
 line text = program_word ++ (text ++ codes "\n")
 
--- the note of a stop: its line, which for a refusal begins with the reason's number
-abbrev pub IsNoteOf : Stop → List ℕ → Type 0
-IsNoteOf NotBuilt note = note ≡ line not_built
-IsNoteOf (Unread name) note = note ≡ line (cannot_read ++ name)
-IsNoteOf (Refused reason) note =
-    (rest : List ℕ) × (note ≡ line (number_of reason ++ rest))
-IsNoteOf Unwritten note = note ≡ line cannot_write
-IsNoteOf Memory note = note ≡ line no_memory
-
--- the stop's note is added to the notes
-abbrev pub Notes : Stop → Change (Option (List ℕ)) → Change ℕ → Type 0
-Notes stop notes faults = (note : List ℕ) × IsNoteOf stop note × Adds notes faults note
+-- the number of a refusal in decimal, and a space
+abbrev pub number_word : Option ℕ → List ℕ
+number_word (Some number) = decimal number ++ codes " "
+number_word None = []

@@ -9,17 +9,19 @@ use Rattle.tf_check.specs.Typing.{IsTyped}
 use Rattle.tf_core.specs.declared.problem.Problem.{Problem}
 use Rattle.tf_core.specs.TypedTables.{HasFiniteModel}
 use Rattle.fof_text.specs.States.{TextHasFiniteModel}
-use Rattle.enc_marks.specs.declared.scheme.Scheme.{Scheme}
 use Rattle.enc_pipeline.specs.declared.fault.Fault.{Fault}
+use Rattle.enc_pipeline.specs.declared.how.How.{How}
 use Rattle.enc_pipeline.specs.Output.{output_of}
-use Rattle.enc_run.specs.Ending.{OfText, IsRefused, IsOutput, IsInput, Fails}
+use Rattle.enc_pipeline.specs.RefusalNumbers.{number_of}
+use Rattle.enc_run.specs.Source.{IsToldSource, AreToldSource}
+use Rattle.enc_run.specs.Texts.{OfSource, IsRefused, IsOutput, IsInput, Fails}
 use Rattle.enc_run.specs.Job.{table_name}
-use Rattle.enc_run.specs.Leads.{IsRefusedBy, IsTableRefusedBy, IsUnbuilt, IsAcceptable, IsOutputOf}
-use Rattle.enc_run.specs.Leads.{untyped_problem}
-use Rattle.enc_run.specs.Note.{line, not_built, cannot_read, cannot_write, no_memory}
-use Rattle.enc_run.specs.Refusals.{status_of, number_of}
-use Rattle.enc_run.specs.Work.{Change, Work, Rises, OwnRises, Untouched, Adds, IsTold, AreTold}
-use Rattle.enc_run.specs.Work.{NoneFails}
+use Rattle.enc_run.specs.Leads.{Lead, IsRefusedBy, IsTableRefusedBy, IsUnbuilt, IsAcceptable}
+use Rattle.enc_run.specs.Leads.{IsOutputOf, untyped_problem}
+use Rattle.enc_run.specs.Note.{line, number_word, not_built, cannot_read, cannot_write, no_memory}
+use Rattle.enc_run.specs.Statuses.{status_of_refusal}
+use Rattle.enc_run.specs.Work.{Change, Work, Rises, OwnRises, Untouched, Adds, IsTold}
+use Rattle.enc_run.specs.Work.{IsNameOf, ProblemStands, NoneFails}
 use Rattle.enc_run.specs.declared.job.Job.{Job}
 use Rattle.enc_run.specs.declared.job.Task.TheVariants.{Encode}
 
@@ -29,11 +31,9 @@ IsOrMemory wanted status = (status ≡ wanted) ⊎ (status ≡ 8)
 
 -- ---- the headline
 
--- The text spells one file, which is well typed with one problem. What was written is the text of
--- the problem's encoding by the scheme, and that text has a finite model exactly when the problem has
--- a finite typed model.
-pub record IsEncoded (which : Scheme) (text : List ℕ) (out : Change (Option (List ℕ)))
-    : Type 0 where
+-- The text spells one file, which is well typed with one problem. What was written has a finite
+-- model, as a text of first-order logic, exactly when the problem has a finite typed model.
+pub record HaveModels (text : List ℕ) (out : Change (Option (List ℕ))) : Type 0 where
   pub file : File
   pub spells : Spells text file
   pub only_file : (other : File) → Spells text other → other ≡ file
@@ -41,20 +41,32 @@ pub record IsEncoded (which : Scheme) (text : List ℕ) (out : Change (Option (L
   pub typed : IsTyped file problem
   pub only_problem : (other : Problem) → IsTyped file other → other ≡ problem
   pub output : List ℕ
-  pub translated : output ≡ output_of which (untyped_problem which problem)
   pub written : Appends out.before out.after output
   pub models : TextHasFiniteModel output ↔ HasFiniteModel problem
 
-abbrev pub Headline : Work → ℕ → Type 0
-Headline w status =
-    (job : Job) (which : Scheme) (text : List ℕ) → IsTold w job text → job.task ≡ Encode which
-    → status ≡ 0 → IsEncoded which text w.out
+abbrev pub Models : Work → ℕ → Type 0
+Models w status =
+    (job : Job) (how : How) (text : List ℕ) → IsTold w job text → job.task ≡ Encode how
+    → status ≡ 0 → HaveModels text w.out
+
+-- and that output is the text of the problem's encoding in this way
+pub record IsTranslated (how : How) (text : List ℕ) (out : Change (Option (List ℕ)))
+    : Type 0 where
+  pub together : HaveModels text out
+  pub is : together.output ≡ output_of how.scheme (untyped_problem how.scheme together.problem)
+
+abbrev pub Translated : Work → ℕ → Type 0
+Translated w status =
+    (job : Job) (how : How) (text : List ℕ) → IsTold w job text → job.task ≡ Encode how
+    → status ≡ 0 → IsTranslated how text w.out
+
+-- ---- completeness
 
 -- Where the texts have an output and neither their files nor the output fails, the run is done.
 abbrev pub Complete : Work → ℕ → Type 0
 Complete w status =
-    (job : Job) (text table output : List ℕ) → AreTold w job text table
-    → IsOutputOf job.task output text table → NoneFails w job → (Rises w.out_faults → ⊥)
+    (job : Job) (source : Lead) (table output : List ℕ) → AreToldSource w job source table
+    → IsOutputOf job.task output source table → NoneFails w job → (Rises w.out_faults → ⊥)
     → IsOrMemory 0 status
 
 -- ---- the causes
@@ -63,9 +75,9 @@ Complete w status =
 -- only there from any library
 pub record NotBuiltExactly (w : Work) (status : ℕ) : Type 0 where
   pub at_words : w.job ≡ None → IsOrMemory 9 status
-  pub at_text : (job : Job) (text : List ℕ) → IsTold w job text → (OwnRises w job.problem → ⊥)
-      → IsUnbuilt job.task text → IsOrMemory 9 status
-  pub only : status ≡ 9 → (w.job ≡ None) ⊎ OfText w IsUnbuilt
+  pub at_source : (job : Job) (source : Lead) → IsToldSource w job source
+      → ProblemStands w job → IsUnbuilt job.task source → IsOrMemory 9 status
+  pub only : status ≡ 9 → (w.job ≡ None) ⊎ OfSource w IsUnbuilt
 
 -- the status is that of a refusal: of a text, a table, or by a limit
 abbrev pub IsOfRefusal : ℕ → Type 0
@@ -73,14 +85,15 @@ IsOfRefusal status = (status ≡ 1) ⊎ (status ≡ 4) ⊎ (status ≡ 5)
 
 -- 1, 4 and 5 come exactly where the problem or the table is refused, by the status of the reason
 pub record RefusedExactly (w : Work) (status : ℕ) : Type 0 where
-  pub at_text : (job : Job) (text : List ℕ) (reason : Fault) → IsTold w job text
-      → (OwnRises w job.problem → ⊥) → IsRefusedBy job.task reason text
-      → IsOrMemory (status_of reason) status
-  pub at_table : (job : Job) (text table : List ℕ) (reason : Fault) → AreTold w job text table
-      → NoneFails w job → IsTableRefusedBy job.task reason text table
-      → IsOrMemory (status_of reason) status
+  pub at_source : (job : Job) (source : Lead) (reason : Fault) → IsToldSource w job source
+      → ProblemStands w job → IsRefusedBy job.task reason source
+      → IsOrMemory (status_of_refusal reason) status
+  pub at_table : (job : Job) (source : Lead) (table : List ℕ) (reason : Fault)
+      → AreToldSource w job source table → NoneFails w job
+      → IsTableRefusedBy job.task reason source table
+      → IsOrMemory (status_of_refusal reason) status
   pub only : IsOfRefusal status
-      → (reason : Fault) × IsRefused w reason × (status_of reason ≡ status)
+      → (reason : Fault) × IsRefused w reason × (status_of_refusal reason ≡ status)
 
 -- 6 comes only where a read of the problem failed, or one of the table, which comes only where
 -- nothing before it refuses
@@ -90,10 +103,11 @@ UnreadOnly w status = status ≡ 6 → (name : List ℕ) × IsInput w name × Fa
 -- 6 comes where the library tells its files and none under the problem's name, or none under the
 -- table's where nothing before it refuses
 pub record UnheldIsUnread (w : Work) (status : ℕ) : Type 0 where
-  pub problem : (job : Job) (files : Files) → w.job ≡ Some job → w.held ≡ Some files
-      → (IsHeld w.held job.problem → ⊥) → IsOrMemory 6 status
-  pub table : (job : Job) (text name : List ℕ) → IsTold w job text → (OwnRises w job.problem → ⊥)
-      → IsAcceptable job.task text → table_name job.task ≡ Some name
+  pub problem : (job : Job) (name : List ℕ) (files : Files) → w.job ≡ Some job
+      → IsNameOf job name → w.held ≡ Some files → (IsHeld w.held name → ⊥)
+      → IsOrMemory 6 status
+  pub table : (job : Job) (source : Lead) (name : List ℕ) → IsToldSource w job source
+      → ProblemStands w job → IsAcceptable job.task source → table_name job.task ≡ Some name
       → (IsHeld w.held name → ⊥) → IsOrMemory 6 status
 
 -- 7 comes only where the output's faults rose
@@ -130,5 +144,5 @@ pub record NotesHold (w : Work) (notes : Change (Option (List ℕ))) (notes_faul
   pub unwritten : status ≡ 7 → Adds notes notes_faults (line cannot_write)
   pub memory : status ≡ 8 → Adds notes notes_faults (line no_memory)
   pub refused : IsOfRefusal status
-      → (reason : Fault) × IsRefused w reason × (status_of reason ≡ status)
-      × ((rest : List ℕ) × Adds notes notes_faults (line (number_of reason ++ rest)))
+      → (reason : Fault) × IsRefused w reason × (status_of_refusal reason ≡ status)
+      × ((rest : List ℕ) × Adds notes notes_faults (line (number_word (number_of reason) ++ rest)))

@@ -1,15 +1,17 @@
--- The ways in which a run ends early, and their statuses.
+-- The ways in which a run ends early: their statuses, and how a fault ends a run.
 use Rattle.std.specs.Prelude.{ℕ}
 use Rattle.enc_pipeline.specs.declared.fault.Fault.{Fault}
 use Rattle.enc_pipeline.specs.declared.fault.Fault.TheVariants as fault
-use Rattle.enc_run.specs.Refusals as refusals
+use Rattle.enc_run.specs.Statuses.{status_of_refusal}
 use Rattle.enc_run.specs.declared.stop.Stop.{Stop}
-use Rattle.enc_run.specs.declared.stop.Stop.TheVariants.{NotBuilt, Unread, Refused, Unwritten, Memory}
+use Rattle.enc_run.specs.declared.stop.Stop.TheVariants.{NotBuilt, Unread, Refused, Unwritten}
+use Rattle.enc_run.specs.declared.stop.Stop.TheVariants.{Memory}
 
+-- the status of a stop
 abbrev pub status_of : Stop → ℕ
 status_of NotBuilt = 9
 status_of (Unread name) = 6
-status_of (Refused reason) = refusals.status_of reason
+status_of (Refused reason) = status_of_refusal reason
 status_of Unwritten = 7
 status_of Memory = 8
 

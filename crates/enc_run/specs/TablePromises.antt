@@ -9,11 +9,12 @@ use Rattle.fof_models.specs.Models as untyped
 use Rattle.fof_text.specs.Names.{chosen_names}
 use Rattle.model_tables.specs.Typed.{IsTypedTable}
 use Rattle.model_tables.specs.Untyped.{IsUntypedTable}
-use Rattle.enc_marks.specs.declared.scheme.Scheme.{Scheme}
 use Rattle.enc_models.specs.Lowered.{lowered}
-use Rattle.enc_pipeline.specs.Carried.{IsTableOfModel, IsLoweredTo, IsLiftedTo, lifted_model, model_line}
-use Rattle.enc_pipeline.specs.Carried.{normal, choices}
+use Rattle.enc_pipeline.specs.Carried.{IsTableOfModel, IsLoweredTo, IsLiftedTo, lifted_model}
+use Rattle.enc_pipeline.specs.Carried.{model_line}
+use Rattle.enc_pipeline.specs.Carried.{written_normal, choices}
 use Rattle.enc_pipeline.specs.Reading.{HasProblem}
+use Rattle.enc_pipeline.specs.declared.how.How.{How}
 use Rattle.enc_run.specs.Leads.{preparation, untyped_problem}
 use Rattle.enc_run.specs.Work.{Change, Work, AreTold}
 use Rattle.enc_run.specs.declared.job.Job.{Job}
@@ -38,47 +39,47 @@ Checks w status =
 -- ---- lower
 
 -- The text has one problem, and the table is that of a model of it. What was written is the untyped
--- table of the lowered structure of the model's extension, which is a model of what is written for the
--- problem by `encode`.
-pub record IsLowered (which : Scheme) (text table : List ℕ) (out : Change (Option (List ℕ)))
+-- table of the lowered structure of the model's extension, which is a model of what is written for
+-- the problem by `encode`.
+pub record IsLowered (how : How) (text table : List ℕ) (out : Change (Option (List ℕ)))
     : Type 0 where
   pub problem : Problem
   pub has : HasProblem text problem
   pub only : (other : Problem) → HasProblem text other → other ≡ problem
   pub output : List ℕ
-  pub carried : IsLoweredTo (preparation which problem) table output
+  pub carried : IsLoweredTo (preparation how problem) table output
   pub written : Appends out.before out.after output
-  pub is_table : IsUntypedTable output (untyped_problem which problem)
-      (chosen_names (untyped_problem which problem).signature)
-      (lowered (choices (preparation which problem)) (normal (preparation which problem))
+  pub is_table : IsUntypedTable output (untyped_problem how.scheme problem)
+      (chosen_names (untyped_problem how.scheme problem).signature)
+      (lowered (choices (preparation how problem)) (written_normal (preparation how problem))
       carried.extension)
-  pub is_model : untyped.AreModel (untyped_problem which problem)
-      (lowered (choices (preparation which problem)) (normal (preparation which problem))
+  pub is_model : untyped.AreModel (untyped_problem how.scheme problem)
+      (lowered (choices (preparation how problem)) (written_normal (preparation how problem))
       carried.extension)
 
 abbrev pub Lowers : Work → ℕ → Type 0
 Lowers w status =
-    (job : Job) (which : Scheme) (text table name : List ℕ) → AreTold w job text table
-    → job.task ≡ Lower name which → status ≡ 0 → IsLowered which text table w.out
+    (job : Job) (how : How) (text table name : List ℕ) → AreTold w job text table
+    → job.task ≡ Lower name how → status ≡ 0 → IsLowered how text table w.out
 
 -- ---- lift
 
 -- The text has one problem, and the table is that of a model of what is written for it by `encode`.
--- What was written is the typed table of the lifted structure without the fresh constructors, which is
--- a model of the problem.
-pub record IsLifted (which : Scheme) (text table : List ℕ) (out : Change (Option (List ℕ)))
+-- What was written is the typed table of the lifted structure without the fresh constructors, which
+-- is a model of the problem.
+pub record IsLifted (how : How) (text table : List ℕ) (out : Change (Option (List ℕ)))
     : Type 0 where
   pub problem : Problem
   pub has : HasProblem text problem
   pub only : (other : Problem) → HasProblem text other → other ≡ problem
   pub output : List ℕ
-  pub carried : IsLiftedTo (preparation which problem) table output
+  pub carried : IsLiftedTo (preparation how problem) table output
   pub written : Appends out.before out.after output
   pub is_table : IsTypedTable output problem.signature
-      (lifted_model (preparation which problem) carried.model)
-  pub is_model : AreModel problem (tables (lifted_model (preparation which problem) carried.model))
+      (lifted_model (preparation how problem) carried.model)
+  pub is_model : AreModel problem (tables (lifted_model (preparation how problem) carried.model))
 
 abbrev pub Lifts : Work → ℕ → Type 0
 Lifts w status =
-    (job : Job) (which : Scheme) (text table name : List ℕ) → AreTold w job text table
-    → job.task ≡ Lift name which → status ≡ 0 → IsLifted which text table w.out
+    (job : Job) (how : How) (text table name : List ℕ) → AreTold w job text table
+    → job.task ≡ Lift name how → status ≡ 0 → IsLifted how text table w.out

@@ -1,10 +1,13 @@
 -- A run as its caller sees it.
-use Rattle.std.specs.Prelude.{◌≡◌, ◌≤◌, ◌⊎◌, ℕ, List, [], Option, Some, None}
+use Rattle.std.specs.Prelude.{◌≡◌, ◌≤◌, ◌⊎◌, ℕ, List, [], map, Option, Some, None, string_bytes}
+use Rattle.std.specs.declared.string.String.{String}
 use Rattle.std.specs.Io.KnownBytes.{Appends, Keeps}
 use Rattle.enc_base.specs.Counts.{Rose}
 use Rattle.enc_base.specs.Sink.{AppendsPrefix}
 use Rattle.enc_base.specs.Library.{Files, Holds, Gives}
-use Rattle.enc_run.specs.Job.{table_name}
+use Rattle.enc_base.specs.declared.library.Library as library
+use Rattle.enc_base.specs.declared.sink.Sink as sink
+use Rattle.enc_run.specs.Job.{job_of, table_name}
 use Rattle.enc_run.specs.declared.job.Job.{Job}
 use Rattle.enc_run.specs.declared.job.Task.{Task}
 
@@ -12,6 +15,14 @@ use Rattle.enc_run.specs.declared.job.Task.{Task}
 pub record Change (A : Type 0) : Type 0 where
   pub before : A
   pub after : A
+
+-- what a sink tells of its bytes, and its count of faults, before a call and after it
+
+abbrev pub bytes_of : {O : Type 0} → sink.Ghosts O → O → O → Change (Option (List ℕ))
+bytes_of o before after = record { before = o.bytes before; after = o.bytes after }
+
+abbrev pub faults_of : {O : Type 0} → sink.Ghosts O → O → O → Change ℕ
+faults_of o before after = record { before = o.faults before; after = o.faults after }
 
 -- What is seen of a run but the notes and the status: the job that the words give, the files that
 -- the library tells, its counts, the bytes that the output tells and its count of faults.
@@ -24,19 +35,27 @@ pub record Work : Type 0 where
   pub out : Change (Option (List ℕ))
   pub out_faults : Change ℕ
 
--- the same from the meanings of a library and a sink
-abbrev pub work_of : {L O : Type 0}
-    → (L → Option Files) → (L → ℕ) → (L → ℕ) → (L → List ℕ → ℕ) → (O → Option (List ℕ)) → (O → ℕ)
-    → Option Job → L → L → O → O → Work
-work_of held faults reads own bytes out_faults job files files_after out out_after = record {
+-- what was seen of a library and a sink before a run and after it, and the job
+abbrev pub seen_of : {L O : Type 0} → library.Ghosts L → sink.Ghosts O → Option Job → L → L → O → O
+    → Work
+seen_of l o job files files_after out out_after = record {
   job = job;
-  held = held files;
-  faults = record { before = faults files; after = faults files_after };
-  reads = record { before = reads files; after = reads files_after };
-  own = record { before = own files; after = own files_after };
-  out = record { before = bytes out; after = bytes out_after };
-  out_faults = record { before = out_faults out; after = out_faults out_after };
+  held = l.held files;
+  faults = record { before = l.faults files; after = l.faults files_after };
+  reads = record { before = l.reads files; after = l.reads files_after };
+  own = record { before = l.own_faults files; after = l.own_faults files_after };
+  out = bytes_of o out out_after;
+  out_faults = faults_of o out out_after;
 }
+
+-- a run with these words
+abbrev pub run_of : {L O A : Type 0} → library.Ghosts L → sink.Ghosts O → List (String A) → L → L
+    → O → O → Work
+run_of l o words = seen_of l o (job_of (map string_bytes words))
+
+-- a run as seen from the read of its problem on, which asks for no job
+abbrev pub rest_of : {L O : Type 0} → library.Ghosts L → sink.Ghosts O → L → L → O → O → Work
+rest_of l o = seen_of l o None
 
 -- the count rose in the run
 abbrev pub Rises : Change ℕ → Type 0
@@ -96,7 +115,17 @@ pub record AreTold (w : Work) (job : Job) (text table : List ℕ) : Type 0 where
   pub told : IsTold w job text
   pub holds_table : OfName (table_name job.task) (Tells w) table
 
+-- ---- names
+
+-- the name is one under which the job's problem is read
+abbrev pub IsNameOf : Job → List ℕ → Type 0
+IsNameOf job name = job.problem ≡ name
+
+-- no read of the job's problem failed by the library's count
+abbrev pub ProblemStands : Work → Job → Type 0
+ProblemStands w job = (name : List ℕ) → IsNameOf job name → OwnRises w name → ⊥
+
 -- no read of a file of the job failed by the library's count
 pub record NoneFails (w : Work) (job : Job) : Type 0 where
-  pub problem : OwnRises w job.problem → ⊥
+  pub problem : ProblemStands w job
   pub table : (name : List ℕ) → table_name job.task ≡ Some name → OwnRises w name → ⊥

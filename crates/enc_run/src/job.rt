@@ -4,19 +4,20 @@ ghost use Rattle.enc_run.specs.Job as spec;
 use crate::Text;
 use enc_base::NoMemory;
 use enc_marks::Scheme;
+use enc_pipeline::{How, is_built, scheme_name};
 use std::alloc::Global;
 
 /// What is to be done with a problem. A table is named as a file is.
 #[derive(Debug, Drop)]
 pub enum Task {
-    /// Write its encoding by the scheme.
-    Encode { scheme: Scheme },
+    /// Write its encoding in the way.
+    Encode { how: How },
     /// Tell whether the structure of a typed table is a model of it.
     Check { table: Text },
-    /// Carry the model of a typed table to the encoding by the scheme.
-    Lower { table: Text, scheme: Scheme },
-    /// Carry the model of an untyped table back from the encoding by the scheme.
-    Lift { table: Text, scheme: Scheme },
+    /// Carry the model of a typed table to the encoding in the way.
+    Lower { table: Text, how: How },
+    /// Carry the model of an untyped table back from the encoding in the way.
+    Lift { table: Text, how: How },
 }
 
 /// What the words ask for: a task on the problem in the file of this name.
@@ -30,9 +31,9 @@ pub struct Job {
 fn scheme_of(name: &str) -> Option<Scheme>
     ensures { result ≡ spec.scheme_of name.now }
 {
-    if name == "guards" {
+    if name == scheme_name(&Scheme::Guards) {
         Some(Scheme::Guards)
-    } else if name == "erase" {
+    } else if name == scheme_name(&Scheme::Erase) {
         Some(Scheme::Erase)
     } else {
         None
@@ -43,11 +44,26 @@ fn scheme_of(name: &str) -> Option<Scheme>
 fn encoding_of(action: &str, scheme: Option<Scheme>) -> Option<Task>
     ensures { result ≡ spec.encoding_of action.now scheme }
 {
-    let scheme = scheme?;
+    let how = How::plain(scheme?);
     if action == "encode" {
-        Some(Task::Encode { scheme })
+        Some(Task::Encode { how })
     } else {
         None
+    }
+}
+
+// the carrying of a table's model in a way for which that is built
+fn carrying_in(alloc: Global, action: &str, table: &str, how: How) -> Result<Option<Task>, NoMemory>
+    ensures { IfOk result (λ task. task ≡ spec.carrying_in action.now table.now how) }
+{
+    if action == "lower" {
+        let table = Text::from_str(alloc, table)?;
+        Ok(Some(Task::Lower { table, how }))
+    } else if action == "lift" {
+        let table = Text::from_str(alloc, table)?;
+        Ok(Some(Task::Lift { table, how }))
+    } else {
+        Ok(None)
     }
 }
 
@@ -60,16 +76,11 @@ fn carrying_of(
 ) -> Result<Option<Task>, NoMemory>
     ensures { IfOk result (λ task. task ≡ spec.carrying_of action.now table.now scheme) }
 {
-    let Some(Scheme::Guards) = scheme else {
+    let Some(scheme) = scheme else {
         return Ok(None);
     };
-    let scheme = Scheme::Guards;
-    if action == "lower" {
-        let table = Text::from_str(alloc, table)?;
-        Ok(Some(Task::Lower { table, scheme }))
-    } else if action == "lift" {
-        let table = Text::from_str(alloc, table)?;
-        Ok(Some(Task::Lift { table, scheme }))
+    if is_built(&scheme) {
+        carrying_in(alloc, action, table, How::plain(scheme))
     } else {
         Ok(None)
     }

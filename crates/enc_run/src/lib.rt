@@ -6,15 +6,14 @@ mod notes;
 mod plain;
 mod problem;
 mod reading;
-mod refusal;
+mod running;
 mod stop;
 mod tables;
 #[cfg(test)]
 mod tests;
 mod text;
-mod top;
 
 pub use job::{Job, Task};
+pub use running::run;
 pub use stop::Stop;
 pub use text::Text;
-pub use top::run;

@@ -1,40 +1,43 @@
 //! From a problem's text to what is written for it.
 
-ghost use Rattle.std.specs.Prelude.{◌≡◌, ◌≤◌, IfOk, IfErr, IsTrue};
+ghost use Rattle.std.specs.Prelude.{◌≡◌, ◌≤◌, true, IfOk, IfErr, IsTrue};
 ghost use Rattle.tf_check.specs.Writable.{HasWritableNames};
 ghost use Rattle.tf_core.specs.Sound.{IsSound, IsSoundNormal};
 ghost use Rattle.tf_nnf.specs.NormalForm.{normal_of};
 ghost use Rattle.tf_nnf.specs.Refusal.{most_nodes};
 ghost use Rattle.enc_pipeline.specs.Causes.{nodes_of};
 ghost use Rattle.enc_pipeline.specs.Distinct.{HasDistinctNames};
-ghost use Rattle.enc_run.specs.Parts.{IsTranslationOf, ProblemEnds, ProblemStops, EncodingEnds};
+ghost use Rattle.enc_pipeline.specs.Way.{is_built, plain_way};
+ghost use Rattle.enc_run.specs.Calls.Parts.{IsTranslationOf, ProblemEnds, ProblemStops, EncodingEnds};
 ghost use Rattle.enc_run.specs.Plain.{is_plain};
+ghost use Rattle.enc_run.specs.Work.{bytes_of, faults_of};
 
 use crate::Stop;
 use crate::plain::{erase, is_plain};
 use enc_base::{Failed, NoMemory, Sink};
 use enc_marks::Scheme;
-use enc_pipeline::{Fault, How, encode_file, prepare, read_problem, write_output};
+use enc_pipeline::{Fault, How, encode_file, is_built, prepare, read_problem, write_output};
 use fof_models::FofProblem;
 use fof_text::Names;
 use std::alloc::Global;
 use tf_core::{Normal, Problem};
 use tf_nnf::{NormalError, normalise};
 
-// Encodes a problem by `guards`, which takes every problem.
-fn encode_by_guards<O: Sink>(alloc: Global, problem: Problem, out: &mut O) -> Result<(), Stop>
+// Encodes a problem in a way that is built.
+fn encode_prepared<O: Sink>(
+    alloc: Global,
+    problem: Problem,
+    how: How,
+    out: &mut O,
+) -> Result<(), Stop>
     requires sound { IsSound problem }
     requires named { HasWritableNames problem }
     requires distinct { HasDistinctNames problem }
-    ensures ends { ProblemEnds Scheme.Guards problem (record { before = O.bytes out.old; after = O.bytes out.new })
-        (record { before = O.faults out.old; after = O.faults out.new }) result }
+    requires built { is_built how.scheme ≡ true }
+    requires plain { how ≡ plain_way how.scheme }
+    ensures ends { ProblemEnds how.scheme problem (bytes_of O.Sink out.old out.new)
+        (faults_of O.Sink out.old out.new) result }
 {
-    let how = How {
-        scheme: Scheme::Guards,
-        mono: false,
-        rounds: 3,
-        cap: 2000,
-    };
     let prepared = prepare(alloc, problem, how)?;
     encode_file(&prepared, out)?;
     Ok(())
@@ -78,8 +81,8 @@ fn translate(alloc: Global, problem: &Problem) -> Result<FofProblem, Stop>
 fn encode_by_erasure<O: Sink>(alloc: Global, problem: &Problem, out: &mut O) -> Result<(), Stop>
     requires sound { IsSound problem.now }
     requires named { HasWritableNames problem.now }
-    ensures ends { ProblemEnds Scheme.Erase problem.now (record { before = O.bytes out.old; after = O.bytes out.new })
-        (record { before = O.faults out.old; after = O.faults out.new }) result }
+    ensures ends { ProblemEnds Scheme.Erase problem.now (bytes_of O.Sink out.old out.new)
+        (faults_of O.Sink out.old out.new) result }
 {
     let untyped = translate(alloc, problem)?;
     let names = match Names::choose(alloc, untyped.signature.as_slice()) {
@@ -92,19 +95,17 @@ fn encode_by_erasure<O: Sink>(alloc: Global, problem: &Problem, out: &mut O) -> 
     }
 }
 
-/// Writes the encoding of the text's problem by the scheme, where the scheme takes the problem.
-pub fn encode_text<O: Sink>(
-    alloc: Global,
-    which: Scheme,
-    text: &[u8],
-    out: &mut O,
-) -> Result<(), Stop>
-    ensures ends { EncodingEnds which text.now (record { before = O.bytes out.old; after = O.bytes out.new })
-        (record { before = O.faults out.old; after = O.faults out.new }) result }
+/// Writes the encoding of the text's problem in the way, where the way takes the problem.
+pub fn encode_text<O: Sink>(alloc: Global, how: How, text: &[u8], out: &mut O) -> Result<(), Stop>
+    requires plain { how ≡ plain_way how.scheme }
+    ensures ends { EncodingEnds how text.now (bytes_of O.Sink out.old out.new)
+        (faults_of O.Sink out.old out.new) result }
 {
     let problem = read_problem(alloc, text)?;
-    match which {
-        Scheme::Guards => encode_by_guards(alloc, problem, out),
+    if is_built(&how.scheme) {
+        return encode_prepared(alloc, problem, how, out);
+    }
+    match how.scheme {
         Scheme::Erase => encode_by_erasure(alloc, &problem, out),
         _ => Err(Stop::NotBuilt),
     }

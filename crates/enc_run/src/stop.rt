@@ -1,8 +1,8 @@
 ghost use Rattle.std.specs.Prelude.{◌≡◌};
-ghost use Rattle.enc_run.specs.Stop as spec;
+ghost use Rattle.enc_run.specs.Statuses as spec;
+ghost use Rattle.enc_run.specs.Stop.{status_of};
 
 use crate::Text;
-use crate::refusal::status_of;
 use enc_pipeline::Fault;
 
 /// How a run ends early, with what its note needs.
@@ -12,7 +12,8 @@ pub enum Stop {
     NotBuilt,
     /// The named file could not be read.
     Unread(Text),
-    /// The problem or the table is refused. The reason is neither want of memory nor a failed write.
+    /// The problem or the table is refused. The reason is neither want of memory nor a failed
+    /// write.
     Refused(Fault),
     /// The output could not be written.
     Unwritten,
@@ -38,14 +39,37 @@ impl From<Fault> for Stop {
 impl Stop {
     /// The exit status.
     pub fn status(&self) -> u8
-        ensures { result ≡ spec.status_of self.now }
+        ensures { result ≡ status_of self.now }
     {
         match self {
             Stop::NotBuilt => 9,
             Stop::Unread(_) => 6,
-            Stop::Refused(reason) => status_of(reason),
+            Stop::Refused(reason) => status_of_refusal(reason),
             Stop::Unwritten => 7,
             Stop::Memory => 8,
         }
+    }
+}
+
+// the exit status of a refusal
+fn status_of_refusal(reason: &Fault) -> u8
+    ensures { result ≡ spec.status_of_refusal reason.now }
+{
+    match reason.number() {
+        Some(number) => status_of_number(number),
+        None => 8,
+    }
+}
+
+// The exit status of the refusal with this number: 5 where a limit is passed, 4 where the table is
+// none of a model, 3 where the scheme doesn't apply, and 1 where there is no problem.
+fn status_of_number(number: u8) -> u8
+    ensures { result ≡ spec.status_of_number number }
+{
+    match number {
+        4 | 10 | 21 | 22 | 33 | 35 | 36 => 5,
+        41..=47 => 4,
+        31 | 32 | 34 => 3,
+        _ => 1,
     }
 }

@@ -1,15 +1,17 @@
 //! From a problem's text and a table's to what is written for them.
 
-ghost use Rattle.std.specs.Prelude.{ℕ, List, None, IfOk, IfErr};
-ghost use Rattle.enc_run.specs.Parts.{TextEnds, TextStops, HasPrepared, ReadsTable};
-ghost use Rattle.enc_run.specs.Work.{work_of, GoesOn};
+ghost use Rattle.std.specs.Prelude.{◌≡◌, ℕ, List, IfOk, IfErr};
+ghost use Rattle.enc_pipeline.specs.Way.{plain_way};
+ghost use Rattle.enc_run.specs.Calls.Parts.{TextEnds, TextStops, HasPrepared, ReadsTable};
+ghost use Rattle.enc_run.specs.Work.{rest_of, GoesOn};
 ghost use Rattle.enc_run.specs.declared.job.Task.TheVariants.{Check, Lower, Lift};
 
 use crate::reading::read_text;
 use crate::{Stop, Text};
 use enc_base::{Library, Sink};
-use enc_marks::Scheme;
-use enc_pipeline::{How, Prepared, check_file, lift_file, lower_file, prepare, read_problem};
+use enc_pipeline::{
+    How, Prepared, check_file, is_built, lift_file, lower_file, prepare, read_problem,
+};
 use std::alloc::Global;
 
 /// Writes that the structure of the table is a model of the text's problem, where it is.
@@ -20,9 +22,13 @@ pub fn check_text<L: Library, O: Sink>(
     files: &mut L,
     out: &mut O,
 ) -> Result<(), Stop>
-    ensures ends { TextEnds (Check table) text.now (work_of L.held L.faults L.reads L.own_faults O.bytes O.faults None files.old files.new out.old out.new) result }
-    ensures reads { ReadsTable (Check table) text.now (work_of L.held L.faults L.reads L.own_faults O.bytes O.faults None files.old files.new out.old out.new) }
-    ensures goes { GoesOn (work_of L.held L.faults L.reads L.own_faults O.bytes O.faults None files.old files.new out.old out.new) (L.held files.new) }
+    ensures ends { TextEnds (Check table) text.now
+        (rest_of L.Library O.Sink files.old files.new out.old out.new) result }
+    ensures reads { ReadsTable (Check table) text.now
+        (rest_of L.Library O.Sink files.old files.new out.old out.new) }
+    ensures goes { GoesOn
+        (rest_of L.Library O.Sink files.old files.new out.old out.new)
+        (L.held files.new) }
 {
     let problem = read_problem(alloc, text)?;
     let table = read_text(alloc, table, files)?;
@@ -30,40 +36,39 @@ pub fn check_text<L: Library, O: Sink>(
     Ok(())
 }
 
-// The text's problem, prepared for a scheme that carries models.
-fn prepared(alloc: Global, which: Scheme, text: &[u8]) -> Result<Prepared, Stop>
-    ensures exact { IfOk result (HasPrepared which text.now) }
+// The text's problem, prepared in the way.
+fn prepared(alloc: Global, how: How, text: &[u8]) -> Result<Prepared, Stop>
+    requires plain { how ≡ plain_way how.scheme }
+    ensures exact { IfOk result (HasPrepared how text.now) }
     ensures cause { IfErr result (λ stop. (name : List ℕ) →
-        TextStops (Lower name which) text.now stop × TextStops (Lift name which) text.now stop) }
+        TextStops (Lower name how) text.now stop × TextStops (Lift name how) text.now stop) }
 {
     let source = read_problem(alloc, text)?;
-    let scheme = match which {
-        Scheme::Guards => Scheme::Guards,
-        _ => return Err(Stop::NotBuilt),
-    };
-    let how = How {
-        scheme,
-        mono: false,
-        rounds: 3,
-        cap: 2000,
-    };
+    if !is_built(&how.scheme) {
+        return Err(Stop::NotBuilt);
+    }
     Ok(prepare(alloc, source, how)?)
 }
 
 /// Writes the table of the model of the encoding that the model of the table gives.
 pub fn lower_text<L: Library, O: Sink>(
     alloc: Global,
-    which: Scheme,
+    how: How,
     text: &[u8],
     table: Text,
     files: &mut L,
     out: &mut O,
 ) -> Result<(), Stop>
-    ensures ends { TextEnds (Lower table which) text.now (work_of L.held L.faults L.reads L.own_faults O.bytes O.faults None files.old files.new out.old out.new) result }
-    ensures reads { ReadsTable (Lower table which) text.now (work_of L.held L.faults L.reads L.own_faults O.bytes O.faults None files.old files.new out.old out.new) }
-    ensures goes { GoesOn (work_of L.held L.faults L.reads L.own_faults O.bytes O.faults None files.old files.new out.old out.new) (L.held files.new) }
+    requires plain { how ≡ plain_way how.scheme }
+    ensures ends { TextEnds (Lower table how) text.now
+        (rest_of L.Library O.Sink files.old files.new out.old out.new) result }
+    ensures reads { ReadsTable (Lower table how) text.now
+        (rest_of L.Library O.Sink files.old files.new out.old out.new) }
+    ensures goes { GoesOn
+        (rest_of L.Library O.Sink files.old files.new out.old out.new)
+        (L.held files.new) }
 {
-    let prepared = prepared(alloc, which, text)?;
+    let prepared = prepared(alloc, how, text)?;
     let table = read_text(alloc, table, files)?;
     lower_file(alloc, &prepared, &table, out)?;
     Ok(())
@@ -72,17 +77,22 @@ pub fn lower_text<L: Library, O: Sink>(
 /// Writes the table of the model of the problem that the model of the table gives.
 pub fn lift_text<L: Library, O: Sink>(
     alloc: Global,
-    which: Scheme,
+    how: How,
     text: &[u8],
     table: Text,
     files: &mut L,
     out: &mut O,
 ) -> Result<(), Stop>
-    ensures ends { TextEnds (Lift table which) text.now (work_of L.held L.faults L.reads L.own_faults O.bytes O.faults None files.old files.new out.old out.new) result }
-    ensures reads { ReadsTable (Lift table which) text.now (work_of L.held L.faults L.reads L.own_faults O.bytes O.faults None files.old files.new out.old out.new) }
-    ensures goes { GoesOn (work_of L.held L.faults L.reads L.own_faults O.bytes O.faults None files.old files.new out.old out.new) (L.held files.new) }
+    requires plain { how ≡ plain_way how.scheme }
+    ensures ends { TextEnds (Lift table how) text.now
+        (rest_of L.Library O.Sink files.old files.new out.old out.new) result }
+    ensures reads { ReadsTable (Lift table how) text.now
+        (rest_of L.Library O.Sink files.old files.new out.old out.new) }
+    ensures goes { GoesOn
+        (rest_of L.Library O.Sink files.old files.new out.old out.new)
+        (L.held files.new) }
 {
-    let prepared = prepared(alloc, which, text)?;
+    let prepared = prepared(alloc, how, text)?;
     let table = read_text(alloc, table, files)?;
     lift_file(alloc, &prepared, &table, out)?;
     Ok(())

@@ -115,8 +115,8 @@ fn axioms(alloc: Global, first: &str, count: usize) -> Result<String, Fail> {
     Ok(text)
 }
 
-// Each write of an output fails in turn: a prefix of the output stands there, and nothing is written
-// after it. A short output is one write, a long one a write for each 4,096 bytes.
+// Each write of an output fails in turn: a prefix of the output stands there, and nothing is
+// written after it. A short output is one write, a long one a write for each 4,096 bytes.
 #[test]
 fn each_write_fails_in_turn(rt: HostRuntime) -> Result<(), Fail> {
     let alloc = rt.alloc();

@@ -1,13 +1,14 @@
 ghost use Rattle.std.specs.Prelude.{eqb};
 ghost use Rattle.std.specs.List.{list_any};
 ghost use Rattle.enc_run.specs.Erased.{occurs_in_term, occurs};
-ghost use Rattle.enc_run.specs.Marks.{AreMarked};
+ghost use Rattle.enc_run.specs.Calls.Marks.{AreMarked};
 
 use tf_core::{Nnf, NormalFormula, Term};
 
 /// Marks the symbols that occur in formulas.
 pub fn mark_formulas(marks: &mut [bool], formulas: &[NormalFormula])
-    ensures { AreMarked (λ f. list_any (λ formula. occurs f formula.body) formulas.now) marks.old marks.new }
+    ensures { AreMarked (λ f. list_any (λ formula. occurs f formula.body) formulas.now) marks.old
+        marks.new }
 {
     for formula in formulas {
         mark_body(marks, &formula.body);

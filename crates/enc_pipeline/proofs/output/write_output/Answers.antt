@@ -1,21 +1,17 @@
-use Rattle.std.proofs.Common.{ap, ◌++◌}
-use Rattle.enc_base.proofs.Puts.{then_put, put_as, all_sent, some_sent, where_ok, where_failed}
-use Rattle.fof_text.specs.Written.{text_of}
+use Rattle.enc_base.proofs.Puts.{then_put, all_sent, some_sent, where_ok, where_failed}
 use Rattle.enc_pipeline.proofs.output.write_output.Goals as goal
 
 pub returns-clause-exact : goal.returns-clause-exact
 returns-clause-exact g c =
     where_ok c.finish.result (all_sent c.new-pending.ensures
-    (put_as (ap (λ z. z ++ text_of c.args.names.now c.args.problem.now) c.first_line.ensures)
-    (then_put c.put.ensures.puts c.put_problem.ensures))) c.finish.ensures.exact
+    (then_put c.put_first_line.ensures c.put_problem.ensures)) c.finish.ensures.exact
 
 pub returns-clause-within : goal.returns-clause-within
 returns-clause-within g c =
     where_failed c.finish.result (λ broken. (some_sent c.new-pending.ensures
-    (put_as (ap (λ z. z ++ text_of c.args.names.now c.args.problem.now) c.first_line.ensures)
-    (then_put c.put.ensures.puts c.put_problem.ensures)) broken).0) c.finish.ensures.cause
+    (then_put c.put_first_line.ensures c.put_problem.ensures) broken).0) c.finish.ensures.cause
 
 pub returns-clause-cause : goal.returns-clause-cause
 returns-clause-cause g c =
     where_failed c.finish.result (λ broken. (some_sent c.new-pending.ensures
-    (then_put c.put.ensures.puts c.put_problem.ensures) broken).1) c.finish.ensures.cause
+    (then_put c.put_first_line.ensures c.put_problem.ensures) broken).1) c.finish.ensures.cause

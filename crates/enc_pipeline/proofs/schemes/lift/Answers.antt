@@ -1,7 +1,10 @@
+use Rattle.enc_pipeline.proofs.Built.{only_guards}
 use Rattle.enc_pipeline.proofs.schemes.lift.Goals as goal
 
 pub returns-clause-exact : goal.returns-clause-exact
-returns-clause-exact c = rw c.requires.built c.lift.ensures.exact
+returns-clause-exact c =
+    rw (only_guards c.args.which.now c.requires.built) c.lift.ensures.exact
 
 pub returns-clause-within : goal.returns-clause-within
-returns-clause-within c = rw c.requires.built c.lift.ensures.within
+returns-clause-within c =
+    rw (only_guards c.args.which.now c.requires.built) c.lift.ensures.within

@@ -1,6 +1,6 @@
 use Rattle.std.specs.List.{list_any}
 use Rattle.enc_run.specs.Erased.{occurs}
-use Rattle.enc_run.specs.Marks.{AreMarked}
+use Rattle.enc_run.specs.Calls.Marks.{AreMarked}
 use Rattle.std.proofs.Common.{subst}
 use Rattle.enc_run.proofs.ErasedMarks.{marks-lent}
 use Rattle.enc_run.proofs.plain.untyped.marks_of.Goals as goal

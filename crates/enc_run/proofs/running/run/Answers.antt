@@ -1,10 +1,13 @@
 use Rattle.enc_run.proofs.Readings.{is_complete, refused_exactly, not_built_exactly, unread_only, unheld_is_unread, unwritten_only, out_holds, notes_hold, status_is_one}
-use Rattle.enc_run.proofs.Headline.{headline}
+use Rattle.enc_run.proofs.Headline.{have_models, translated}
 use Rattle.enc_run.proofs.TablePromises.{checks, lowers, lifts}
-use Rattle.enc_run.proofs.top.run.Goals as goal
+use Rattle.enc_run.proofs.running.run.Goals as goal
 
-pub returns-clause-headline : goal.returns-clause-headline
-returns-clause-headline g c = headline _ _ _ _ c.ended.ensures.ended
+pub returns-clause-models : goal.returns-clause-models
+returns-clause-models g c = have_models _ _ _ _ c.ended.ensures.ended
+
+pub returns-clause-translated : goal.returns-clause-translated
+returns-clause-translated g c = translated _ _ _ _ c.ended.ensures.ended
 
 pub returns-clause-complete : goal.returns-clause-complete
 returns-clause-complete g c = is_complete _ _ _ _ c.ended.ensures.ended

@@ -1,4 +1,4 @@
--- Marks on the symbols of a signature, one for each.
+-- Marks on the symbols of a signature, one for each. This need not be believed.
 use Rattle.std.specs.Prelude.{ℕ, ◌<◌, ◌≡◌, Bool, false, ◌||◌, List, length, get_or}
 
 -- the marks afterwards: those before, and one on each symbol that passes the test

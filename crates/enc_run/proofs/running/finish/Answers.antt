@@ -1,9 +1,9 @@
 use Rattle.std.proofs.Common.{refl}
 use Rattle.std.proofs.KnownBytes.{Keeps-refl}
-use Rattle.enc_run.specs.Ending.{EndsBy}
+use Rattle.enc_run.specs.Calls.Ending.{EndsBy}
 use Rattle.enc_run.proofs.RunEndings.{reads_problem, problem_unread, run_ends, run_reads, run_goes}
-use Rattle.enc_run.proofs.TextEndings.{handed_on}
-use Rattle.enc_run.proofs.top.finish.Goals as goal
+use Rattle.enc_pipeline.proofs.HandedOn.{handed_on}
+use Rattle.enc_run.proofs.running.finish.Goals as goal
 
 pub returns-in_err-text-clause-ends : goal.returns-in_err-text-clause-ends
 returns-in_err-text-clause-ends g c =

@@ -1,4 +1,4 @@
--- What is made of a model on the way from one table to another.
+-- What is made of a model on the way from one table to another. This need not be believed.
 use Rattle.std.specs.Prelude.{ℕ, ◌≤◌, ◌≡◌, List}
 use Rattle.enc_base.specs.Counts.{most_entries}
 use Rattle.tf_core.specs.TypedTables.{TypedTables}
@@ -12,7 +12,8 @@ use Rattle.enc_marks.specs.declared.refusal.Refusal.TheVariants as refusal
 use Rattle.enc_models.specs.Lowered.{lowered, lowered_entries}
 use Rattle.enc_models.specs.LiftedTables.{lifted_entries}
 use Rattle.enc_pipeline.specs.Way.{Preparation}
-use Rattle.enc_pipeline.specs.Carried.{normal, translation, choices, IsTableOfModel, IsTableOfUntypedModel}
+use Rattle.enc_pipeline.specs.Carried.{written_normal, translation, choices, IsTableOfModel}
+use Rattle.enc_pipeline.specs.Carried.{IsTableOfUntypedModel}
 use Rattle.enc_pipeline.specs.Carried.{IsLoweredTooLarge, IsLiftedTooLarge, lifted_model}
 use Rattle.enc_pipeline.specs.declared.fault.Fault.{Fault}
 use Rattle.enc_pipeline.specs.declared.fault.Fault.TheVariants as fault
@@ -23,8 +24,8 @@ use Rattle.enc_pipeline.specs.declared.fault.Fault.TheVariants as fault
 pub record IsLowered (p : Preparation) (t : TypedTables) (s : Structure) : Type 0 where
   pub extension : TypedTables
   pub extends : IsExtension p.problem t extension
-  pub within : lowered_entries (choices p) (normal p) extension ≤ most_entries
-  pub exact : s ≡ lowered (choices p) (normal p) extension
+  pub within : lowered_entries (choices p) (written_normal p) extension ≤ most_entries
+  pub exact : s ≡ lowered (choices p) (written_normal p) extension
   pub is_model : untyped_models.AreModel (translation p) s
 
 -- why there is none
@@ -42,13 +43,14 @@ pub record IsLoweredFrom (p : Preparation) (table : List ℕ) (s : Structure) : 
 
 -- the structure is that which an untyped model gives, and a model of the problem
 pub record IsLifted (p : Preparation) (model : Structure) (s : TypedStructure) : Type 0 where
-  pub within : lifted_entries (choices p) (normal p) model ≤ most_entries
+  pub within : lifted_entries (choices p) (written_normal p) model ≤ most_entries
   pub exact : s ≡ lifted_model p model
   pub is_model : typed_models.AreModel p.problem (tables s)
 
 -- why there is none
 abbrev pub IsNotLifted : Preparation → Structure → Fault → Type 0
-IsNotLifted p model (fault.Scheme (refusal.TableTooLarge entries)) = IsLiftedTooLarge p model entries
+IsNotLifted p model (fault.Scheme (refusal.TableTooLarge entries)) =
+    IsLiftedTooLarge p model entries
 IsNotLifted p model _ = ⊥
 
 -- it is given by the model of which a text is a table

@@ -1,5 +1,5 @@
 use Rattle.std.proofs.Common.{sym}
-use Rattle.enc_run.proofs.top.ended.Goals as goal
+use Rattle.enc_run.proofs.running.ended.Goals as goal
 
 pub returns-clause-ended : goal.returns-clause-ended
 returns-clause-ended g c = record {

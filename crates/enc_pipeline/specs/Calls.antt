@@ -1,0 +1,2 @@
+-- Words of private contracts, which need not be believed.
+pub mod Carrying
