@@ -4,7 +4,8 @@ use crate::call::Call;
 use crate::out::Out;
 use crate::stop::Stop;
 use crate::{
-    carrying, copies, counting, encodings, files, instances, models, problems, syntax, untyped,
+    carrying, copies, counting, encodings, files, instances, models, problems, standing, syntax,
+    untyped,
 };
 
 /// Makes the call of this name, and prints what it answers.
@@ -14,6 +15,7 @@ pub fn answer(name: &[u8], mut call: Call<'_>, out: &mut Out) -> Result<(), Stop
         || instances::answer(name, &mut call, out)?
         || models::answer(name, &mut call, out)?
         || counting::answer(name, &mut call, out)?
+        || standing::answer(name, &mut call, out)?
         || encodings::answer(name, &mut call, out)?
         || untyped::answer(name, &mut call, out)?
         || carrying::answer(name, &mut call, out)?

@@ -9,6 +9,7 @@ ghost use Rattle.enc_marks.specs.Encoded.{encoded};
 ghost use Rattle.enc_marks.specs.Schemes.{choices_of};
 
 use crate::call::Call;
+use crate::choices::Tags;
 use crate::encoding::{encoding_by, first_false_in, untyped_model_of};
 use crate::given::{extension_of, model_of, normal_of, problem_of};
 use crate::out::Out;
@@ -16,7 +17,6 @@ use crate::put_tables::{put_typed, put_untyped};
 use crate::refusals::{no_model, not_built, unencoded};
 use crate::stop::Stop;
 use enc_marks::{Encoded, Scheme};
-use enc_models::lower_uniform;
 use fof_models::Structure;
 use std::alloc::Global;
 use tf_core::Normal;
@@ -48,7 +48,7 @@ fn lowered_by(
 {
     let lowered = match which {
         Scheme::Guards => enc_guards::lower(alloc, Scheme::Guards, normal, made, model),
-        Scheme::Tags => lower_uniform(alloc, true, false, normal, made, model),
+        Scheme::Tags => enc_models::lower(alloc, &Tags, normal, made, model),
         _ => return Err(not_built(alloc)),
     };
     match lowered {

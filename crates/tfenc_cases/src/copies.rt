@@ -46,45 +46,79 @@ fn values_of(alloc: Global, text: &[u8]) -> Result<Values, Stop> {
 }
 
 fn copies(call: &Call<'_>, out: &mut Out) -> Result<(), Stop> {
-    let alloc = call.alloc;
-    let values = values_of(alloc, call.text())?;
-    out.told(b"file ", &values.file.same(&values.file.copy(alloc)?));
-    out.told(
-        b"problem ",
-        &values.problem.same(&values.problem.copy(alloc)?),
-    );
-    out.told(b"normal ", &values.normal.same(&values.normal.copy(alloc)?));
-    out.told(
-        b"scheme ",
-        &Scheme::Guards.same(&Scheme::Guards.copy(alloc)?),
-    );
-    out.told(
-        b"encoded ",
-        &values.encoded.same(&values.encoded.copy(alloc)?),
-    );
-    let typed = call.texts.typed.as_slice();
-    if !typed.is_empty() {
-        let problem = problem_of(alloc, call.text())?;
-        let structure = structure_of(alloc, &problem, typed)?;
-        out.told(b"typed ", &structure.same(&structure.copy(alloc)?));
+    let values = values_of(call.alloc, call.text())?;
+    copied_file(call.alloc, &values.file, out)?;
+    copied_problem(call.alloc, &values.problem, out)?;
+    copied_normal(call.alloc, &values.normal, out)?;
+    copied_scheme(call.alloc, out)?;
+    copied_encoded(call.alloc, &values.encoded, out)?;
+    copied_typed(call, out)?;
+    copied_untyped(call, out)
+}
+
+fn copied_file(alloc: Global, file: &File, out: &mut Out) -> Result<(), Stop> {
+    out.told(b"file ", &file.same(&file.copy(alloc)?));
+    Ok(())
+}
+
+fn copied_problem(alloc: Global, problem: &Problem, out: &mut Out) -> Result<(), Stop> {
+    out.told(b"problem ", &problem.same(&problem.copy(alloc)?));
+    Ok(())
+}
+
+fn copied_normal(alloc: Global, normal: &Normal, out: &mut Out) -> Result<(), Stop> {
+    out.told(b"normal ", &normal.same(&normal.copy(alloc)?));
+    Ok(())
+}
+
+fn copied_scheme(alloc: Global, out: &mut Out) -> Result<(), Stop> {
+    let scheme = Scheme::Guards;
+    out.told(b"scheme ", &scheme.same(&scheme.copy(alloc)?));
+    Ok(())
+}
+
+fn copied_encoded(alloc: Global, encoded: &Encoded, out: &mut Out) -> Result<(), Stop> {
+    out.told(b"encoded ", &encoded.same(&encoded.copy(alloc)?));
+    Ok(())
+}
+
+// the structure of the typed table, if there is one
+fn copied_typed(call: &Call<'_>, out: &mut Out) -> Result<(), Stop> {
+    let table = call.texts.typed.as_slice();
+    if table.is_empty() {
+        return Ok(());
     }
-    let untyped = call.texts.untyped.as_slice();
-    if !untyped.is_empty() {
-        let encoding = encoding_of(alloc, &Scheme::Guards, call.text())?;
-        let structure = untyped_of(alloc, &encoding, untyped)?;
-        out.told(b"untyped ", &structure.same(&structure.copy(alloc)?));
+    let problem = problem_of(call.alloc, call.text())?;
+    let structure = structure_of(call.alloc, &problem, table)?;
+    out.told(b"typed ", &structure.same(&structure.copy(call.alloc)?));
+    Ok(())
+}
+
+// the structure of the untyped table, if there is one
+fn copied_untyped(call: &Call<'_>, out: &mut Out) -> Result<(), Stop> {
+    let table = call.texts.untyped.as_slice();
+    if table.is_empty() {
+        return Ok(());
     }
+    let encoding = encoding_of(call.alloc, &Scheme::Guards, call.text())?;
+    let structure = untyped_of(call.alloc, &encoding, table)?;
+    out.told(b"untyped ", &structure.same(&structure.copy(call.alloc)?));
     Ok(())
 }
 
 fn against(call: &Call<'_>, out: &mut Out) -> Result<(), Stop> {
     let values = values_of(call.alloc, call.texts.problem.as_slice())?;
     let others = values_of(call.alloc, call.texts.other.as_slice())?;
+    put_same(&values, &others, out);
+    Ok(())
+}
+
+// of each value whether it is the same
+fn put_same(values: &Values, others: &Values, out: &mut Out) {
     out.told(b"file ", &values.file.same(&others.file));
     out.told(b"problem ", &values.problem.same(&others.problem));
     out.told(b"normal ", &values.normal.same(&others.normal));
     out.told(b"encoded ", &values.encoded.same(&others.encoded));
-    Ok(())
 }
 
 fn same_table(call: &Call<'_>, out: &mut Out) -> Result<(), Stop> {

@@ -12,10 +12,11 @@ ghost use Rattle.enc_marks.specs.Encoded.{encoded};
 ghost use Rattle.enc_marks.specs.Schemes.{args, choices_of, tags};
 ghost use Rattle.enc_marks.specs.Laws.{IsByType};
 
+use crate::choices::{Args, Tags};
 use crate::given::{normal_of, problem_of};
 use crate::refusals::{no_model, not_built, unencoded, untabled};
 use crate::stop::Stop;
-use enc_marks::{Encoded, Scheme, encode_uniform};
+use enc_marks::{Encoded, Scheme, encode};
 use fof_models::{FofEnv, FofProblem, Structure};
 use fof_text::Names;
 use model_tables::read_untyped;
@@ -31,9 +32,10 @@ pub struct Encoding {
 
 // a tag at each term, and no guards
 fn tagged_by(alloc: Global, normal: &Normal) -> Result<Encoded, Stop>
-    ensures { IfOk result (λ made. made ≡ encoded tags normal.now) }
+    requires sound { IsSoundNormal normal.now }
+    ensures exact { IfOk result (λ made. made ≡ encoded tags normal.now) }
 {
-    match encode_uniform(alloc, true, false, normal) {
+    match encode(alloc, &Tags, normal) {
         Ok(made) => Ok(made),
         Err(_) => Err(Stop::Memory),
     }
@@ -41,9 +43,10 @@ fn tagged_by(alloc: Global, normal: &Normal) -> Result<Encoded, Stop>
 
 // neither tags nor guards
 fn bare_by(alloc: Global, normal: &Normal) -> Result<Encoded, Stop>
-    ensures { IfOk result (λ made. made ≡ encoded args normal.now) }
+    requires sound { IsSoundNormal normal.now }
+    ensures exact { IfOk result (λ made. made ≡ encoded args normal.now) }
 {
-    match encode_uniform(alloc, false, false, normal) {
+    match encode(alloc, &Args, normal) {
         Ok(made) => Ok(made),
         Err(_) => Err(Stop::Memory),
     }

@@ -20,7 +20,7 @@ returns-in-Ok c =
     c.requires.encoded ∙ ap (λ (n : Normal). encoded choices n) c.requires.normal in
     let named : AreNamed (chosen_names made.problem.signature) made.problem =
     subst (λ (e : Encoded). AreNamed (chosen_names e.problem.signature) e.problem) (sym made_is)
-    (translation_named problem c.requires.named choices c.requires.by_type
+    (translation_named problem c.requires.named choices
     (subst IsSoundNormal c.requires.normal c.requires.sound)
     (subst (λ (e : Encoded). IsSound e.problem) made_is c.requires.translated)) in
     subst (λ names. AreNamed names made.problem)
