@@ -41,7 +41,7 @@ pub fn lift(
         (IsLiftRefused (choices_of which normal.now) normal.now model.now) }
 {
     match which {
-        Scheme::Guards => enc_models::lift(alloc, &Guards, normal, encoded, model),
+        Scheme::Guards => enc_models::lift_by(alloc, &Guards, normal, encoded, model),
         _ => unreachable!(),
     }
 }

@@ -41,7 +41,7 @@ pub fn lower(
         (IsRefused (choices_of which normal.now) normal.now (tables model.now)) }
 {
     match which {
-        Scheme::Guards => enc_models::lower(alloc, &Guards, normal, encoded, model),
+        Scheme::Guards => enc_models::lower_by(alloc, &Guards, normal, encoded, model),
         _ => unreachable!(),
     }
 }

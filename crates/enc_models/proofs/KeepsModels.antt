@@ -83,7 +83,7 @@ nothing = record {
   fresh = 0;
 }
 
-merged_by_type : (which : Scheme) → IsMerged which → IsMarkedByType which
+pub merged_by_type : (which : Scheme) → IsMerged which → IsMarkedByType which
 merged_by_type scheme.Guards merges = λ normal. refl
 merged_by_type scheme.Tags merges = λ normal. refl
 merged_by_type scheme.GuardsCover merges = λ normal. refl

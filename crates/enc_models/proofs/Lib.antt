@@ -1,3 +1,4 @@
+pub mod ParameterSources
 pub mod Numbers
 pub mod BlockEntries
 pub mod KeptBlocks

@@ -1,5 +1,5 @@
 -- The values of a lifted structure, as they are computed.
-use Rattle.std.specs.Prelude.{ℕ, zero, suc, ◌≡◌, ◌<◌, ◌≤◌, ◌+◌, ◌-◌, ◌*◌, ◌++◌, Bool, true, false, cond, List, [], ◌∷◌, map, length, replicate, take, get_or, slice_get, slice_index, Option, Some, None}
+use Rattle.std.specs.Prelude.{ℕ, zero, suc, ◌≡◌, ◌<◌, ◌≤◌, ◌+◌, ◌-◌, ◌*◌, ◌++◌, Bool, true, false, cond, List, [], ◌∷◌, map, length, replicate, take, count_by, get_or, slice_get, slice_index, Option, Some, None}
 use Rattle.std.proofs.Common.{refl, sym, ap, subst, ◌∙◌, arith, ⊎_elim}
 use Rattle.std.proofs.lemmas.Bool.{cases_Bool}
 use Rattle.std.proofs.lemmas.List.{get_or-replicate, get_or-append_right, get_or_append_left, length-replicate, length-map}
@@ -22,19 +22,20 @@ use Rattle.tf_models.proofs.TypeMembers.{type_value_below, type_values_below, ty
 use Rattle.fof_models.specs.declared.structure.Structure.{Structure}
 use Rattle.enc_marks.specs.declared.choices.Marking.{Marking}
 use Rattle.enc_marks.specs.declared.choices.Marking.TheVariants.{ByType}
-use Rattle.enc_marks.specs.declared.choices.Elements.{Elements}
-use Rattle.enc_marks.specs.declared.choices.Elements.TheVariants.{Guarded, Image, Fixed, All}
 use Rattle.enc_marks.specs.Choices.{Choices}
 use Rattle.enc_marks.specs.Encoded.{all_numbers, is_present, translation}
 use Rattle.enc_marks.specs.Occurrence.{count_below}
 use Rattle.enc_marks.specs.Translation.{selected}
+use Rattle.enc_marks.proofs.SoundTypes.{length-selected}
 use Rattle.enc_laws.specs.Lifted.{Lift, numbers_of, read_as, lift_by, lift_by_type, lifted, lifted_at, lifted_value}
+use Rattle.enc_laws.specs.MergedStructure.{kept_count}
 use Rattle.enc_laws.specs.Ranks.{nth}
 use Rattle.enc_laws.proofs.Ranked.{length-listed, listed-at}
 use Rattle.enc_laws.specs.Present.{is_tag}
 use Rattle.enc_models.specs.LiftedTables.{marked_structure, lifted_structure}
 use Rattle.enc_models.specs.Calls.Lifting.{Parts, marked_in, mark_in, table_in, typed_in, lift_in, occurs_in, picks_in, numbers_in, entry_in, bounds_in, IsMarked}
 use Rattle.enc_models.proofs.MarkedTables.{constructor_long, symbol_long, symbol_below, entry_is, entry_none, plain_number, some_occurs}
+use Rattle.enc_models.proofs.ParameterSources.{few_kept, selected_below, get_or-selected, count_before}
 use Rattle.enc_models.proofs.PickedNumbers.{nth_below}
 
 -- the place of a tuple over one bound, found from the left
@@ -78,14 +79,6 @@ joined_below size (suc first) second (v ∷ values) others below rest =
     subst (λ n. EachBelow (replicate n size) (v ∷ (values ++ others))) e
     (below.0, joined_below size first second values others below.1 rest)
 
-selected_all : (count : ℕ) (members : List ℕ) → count ≡ length members →
-    selected (replicate count true) members ≡ members
-selected_all zero [] all = refl
-selected_all zero (m ∷ members) all = absurd (omega (arith, all))
-selected_all (suc count) [] all = absurd (omega (arith, all))
-selected_all (suc count) (m ∷ members) all =
-    ap (λ ms. m ∷ ms) (selected_all count members (omega (arith, all)))
-
 -- the lifted structure of marks by type
 pub lifted_structure-by_type : (c : Choices) (normal : Normal) (s : Structure) →
     c.marking ≡ ByType →
@@ -97,14 +90,6 @@ lifted_structure-by_type c normal s by_type =
     ap (λ (marking : Marking). lifted c (all_numbers normal) normal.signature
     (is_present (translation c normal)) (marked_structure c normal s)
     (lift_by marking c normal (all_numbers normal) (marked_structure c normal s))) by_type
-
--- numbers are read as they are where the elements of members are no images
-read_itself : (elements : Elements) (mark : ℕ → ℕ) (v : ℕ) → (elements ≡ Image → ⊥) →
-    read_as elements mark v ≡ v
-read_itself Guarded mark v plain = refl
-read_itself Image mark v plain = absurd (plain refl)
-read_itself Fixed mark v plain = refl
-read_itself All mark v plain = refl
 
 module _ (m : Parts) (ready : IsMarked m) (fits : IsStructure m.normal.signature (typed_in m)) where
   abbrev size : ℕ
@@ -316,6 +301,9 @@ module _ (m : Parts) (ready : IsMarked m) (fits : IsStructure m.normal.signature
   module _ (symbol : Symbol) (typed : IsSymbol m.normal.signature symbol)
       (members elements : List ℕ) (are : AreArguments (typed_in m) symbol members elements)
     where
+      abbrev keeps : List Bool
+      keeps = m.choices.keeps symbol
+
       pub members_below : EachBelow (replicate symbol.parameters m.model.size) members
       members_below =
           subst (λ n. EachBelow (replicate symbol.parameters n) members) count_is are.for_parameters
@@ -350,26 +338,58 @@ module _ (m : Parts) (ready : IsMarked m) (fits : IsStructure m.normal.signature
           element_below symbol.parameters members members_below symbol.arguments elements i ty
           typed.arguments are.for_arguments within is
 
+      few : length keeps ≤ length members
+      few = omega (arith, few_kept m.choices ready.kept_types symbol, as_many_members)
+
+      -- the members that are kept
+
+      pub kept_within : (i : ℕ) → i < length (m.choices.keeps symbol) → i < length members
+      kept_within i within = omega (arith, within, few)
+
+      kept_long : length (selected keeps members) ≡ kept_count m.choices symbol
+      kept_long = length-selected keeps members few
+
+      kept_below : EachBelow (replicate (kept_count m.choices symbol) size) (selected keeps members)
+      kept_below =
+          subst (λ n. EachBelow (replicate n size) (selected keeps members)) kept_long
+          (selected_below size keeps members each_member)
+
       pub each_number : EachBelow (bounds_in m symbol) (numbers_in m symbol members elements)
       each_number =
-          joined_below size symbol.parameters (length symbol.arguments) members _ members_below
+          joined_below size (kept_count m.choices symbol) (length symbol.arguments)
+          (selected keeps members) _ kept_below
           (numbers_small symbol.parameters members members_below symbol.arguments elements
           typed.arguments are.for_arguments)
 
-      pub number_of_member : (i : ℕ) → i < length members →
-          get_or members i 0 ≡ get_or (numbers_in m symbol members elements) i 0
-      number_of_member i within = sym (get_or_append_left members _ 0 i within)
+      -- how many of the first type arguments are kept
+      abbrev count_so_far : ℕ → ℕ
+      count_so_far i = count_by (λ kept. kept) (take i (m.choices.keeps symbol))
+
+      module _ (i : ℕ) (within : i < length (m.choices.keeps symbol))
+          (kept : get_or (m.choices.keeps symbol) i false ≡ true)
+        where
+          pub kept_place : count_so_far i < kept_count m.choices symbol + length symbol.arguments
+          kept_place =
+              omega (arith, count_before keeps i within kept)
+
+          pub number_of_member : get_or members i 0
+              ≡ get_or (numbers_in m symbol members elements) (count_so_far i) 0
+          number_of_member =
+              sym (get_or_append_left (selected keeps members) _ 0 (count_so_far i)
+              (omega (arith, kept_long, count_before keeps i within kept))
+              ∙ get_or-selected keeps members i (kept_within i within) kept)
 
       pub number_of_element : (i : ℕ) (ty : Ty) → i < length symbol.arguments →
           ty ≡ get_or symbol.arguments i ty →
           nth m.model.size (picks_in m (member_of (typed_in m) members ty)) (get_or elements i 0)
-          ≡ get_or (numbers_in m symbol members elements) (symbol.parameters + i) 0
+          ≡ get_or (numbers_in m symbol members elements) (kept_count m.choices symbol + i) 0
       number_of_element i ty within is =
           let lift : Lift = lift_in m in
-          let past : symbol.parameters ≤ symbol.parameters + i = omega arith in
-          let behind : symbol.parameters + i - symbol.parameters ≡ i = omega arith in
-          sym (get_or-append_right members _ symbol.parameters (symbol.parameters + i) 0
-          (sym as_many_members) past
+          let count : ℕ = kept_count m.choices symbol in
+          let past : count ≤ count + i = omega arith in
+          let behind : count + i - count ≡ i = omega arith in
+          sym (get_or-append_right (selected keeps members) _ count (count + i) 0
+          kept_long past
           ∙ ap (λ n. get_or (numbers_of lift size (map (member_of (typed_in m) members)
           symbol.arguments) elements) n 0) behind
           ∙ numbers_at symbol.parameters members members_below symbol.arguments elements i ty within
@@ -380,10 +400,10 @@ module _ (m : Parts) (ready : IsMarked m) (fits : IsStructure m.normal.signature
           (table : List ℕ) (table_of : table ≡ table_in m f)
         where
           as_many_numbers : length (numbers_in m symbol members elements)
-              ≡ symbol.parameters + length symbol.arguments
+              ≡ kept_count m.choices symbol + length symbol.arguments
           as_many_numbers =
               sym (EachBelow-same_length _ (numbers_in m symbol members elements) each_number)
-              ∙ length-replicate (symbol.parameters + length symbol.arguments) size
+              ∙ length-replicate (kept_count m.choices symbol + length symbol.arguments) size
 
           symbol_plain : is_tag m.choices m.normal f ≡ false
           symbol_plain =
@@ -399,7 +419,7 @@ module _ (m : Parts) (ready : IsMarked m) (fits : IsStructure m.normal.signature
           occurs_fills is =
               ap length table_of
               ∙ symbol_long m.choices m.normal ready.by_type m.model ready.well_formed f symbol found
-              (ready.kept symbol) is
+              is
 
           pub symbol_fills : (length table ≡ 0 → ⊥) →
               length table ≡ tuple_count (bounds_in m symbol)
@@ -479,14 +499,7 @@ module _ (m : Parts) (ready : IsMarked m) (fits : IsStructure m.normal.signature
                 ((marked_in m).symbol_at f
                 (selected (m.choices.keeps symbol) members
                 ++ numbers_of (lift_in m) size (map (member_of (typed_in m) members)
-                symbol.arguments) elements))) 0) (symbol_occurs some)
-                ∙ ap
-                (λ (us : List ℕ). lifted_value (lift_in m) members symbol.result
-                ((marked_in m).symbol_at f
-                (us ++ numbers_of (lift_in m) size (map (member_of (typed_in m) members)
-                symbol.arguments) elements)))
-                (ap (λ (ks : List Bool). selected ks members) (ready.kept symbol)
-                ∙ selected_all symbol.parameters members as_many_members))
+                symbol.arguments) elements))) 0) (symbol_occurs some))
 
             pub truth_is : symbol.result ≡ None →
                 entry_in m f symbol members elements ≡ (typed_in m).symbol_at f members elements
@@ -496,15 +509,12 @@ module _ (m : Parts) (ready : IsMarked m) (fits : IsStructure m.normal.signature
                 ∙ given_is
 
             pub rank_is : (ty : Ty) → symbol.result ≡ Some ty →
-                count_below (entry_in m f symbol members elements)
+                count_below (read_as m.choices.elements
+                (mark_in m (member_of (typed_in m) members ty)) (entry_in m f symbol members elements))
                 (picks_in m (member_of (typed_in m) members ty))
                 ≡ (typed_in m).symbol_at f members elements
             rank_is ty gives =
-                ap (λ v. count_below v (picks_in m (member_of (typed_in m) members ty)))
-                (sym (read_itself m.choices.elements
-                (mark_in m (member_of (typed_in m) members ty))
-                (entry_in m f symbol members elements) ready.as_they_are))
-                ∙ sym (ap (λ (o : Option Ty). lifted_value (lift_in m) members o
+                sym (ap (λ (o : Option Ty). lifted_value (lift_in m) members o
                 (entry_in m f symbol members elements)) gives)
                 ∙ given_is
 

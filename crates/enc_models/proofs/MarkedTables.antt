@@ -1,5 +1,5 @@
 -- The tables of marked symbols, by their numbers.
-use Rattle.std.specs.Prelude.{ℕ, zero, suc, ◌≡◌, ◌<◌, ◌≤◌, ◌+◌, ◌*◌, ◌++◌, Bool, true, false, List, [], ◌∷◌, length, replicate, cond, count_by, is_none, not, ◌&&◌, get_or, slice_get, slice_index, option_map, Option, Some, None}
+use Rattle.std.specs.Prelude.{ℕ, zero, suc, ◌≡◌, ◌<◌, ◌≤◌, ◌+◌, ◌*◌, ◌++◌, Bool, true, false, List, [], ◌∷◌, length, replicate, cond, is_none, not, ◌&&◌, get_or, slice_get, slice_index, option_map, Option, Some, None}
 use Rattle.std.proofs.Common.{refl, sym, ap, subst, ◌∙◌, arith, ⊎_elim}
 use Rattle.std.proofs.lemmas.Bool.{cases_Bool, cases_lt, le-leb, lt-leb}
 use Rattle.std.proofs.lemmas.List.{get_or_append_left, get_or_push, get_or_default}
@@ -15,16 +15,17 @@ use Rattle.fof_models.specs.Structures.{table_of, reading, IsWellFormed}
 use Rattle.enc_marks.specs.declared.mark.Mark.{Mark}
 use Rattle.enc_marks.specs.declared.mark.Mark.TheVariants as mark
 use Rattle.enc_marks.specs.declared.choices.Marking.TheVariants.{ByType}
-use Rattle.enc_marks.specs.declared.choices.Binding.TheVariants.{ByGuard}
-use Rattle.enc_marks.specs.Choices.{Choices, all_types}
+use Rattle.enc_marks.specs.declared.choices.Binding.{Binding}
+use Rattle.enc_marks.specs.declared.choices.Binding.TheVariants.{ByGuard, ByTag}
+use Rattle.enc_marks.specs.Choices.{Choices}
 use Rattle.enc_marks.specs.Occurrence.{count_below, passing}
 use Rattle.enc_marks.specs.Encoded.{MarkedSymbol, shared_mark, all_marks, encoded, is_guard}
+use Rattle.enc_laws.specs.MergedStructure.{kept_count}
 use Rattle.enc_laws.specs.Present.{is_tag, last_of}
 use Rattle.enc_marks.proofs.SoundMarks.{slice_get-passing, symbol-at, constructor-at, shared-at}
 use Rattle.enc_laws.proofs.MarksFound.{passing_found, map_found}
 use Rattle.enc_models.specs.LiftedTables.{marked_structure}
 use Rattle.enc_models.specs.Calls.Lifting.{Parts, occurs_in, mark_count, mark_number, mark_in, place_in, table_in, ArePlaces, marked_table}
-use Rattle.enc_models.proofs.Symbols.{kept_all}
 use Rattle.enc_models.proofs.Marks.{IsStanding, length-all_marks, stands_at}
 
 -- what holds of each item holds with one item more
@@ -279,14 +280,10 @@ module _ (c : Choices) (normal : Normal) (by_type : c.marking ≡ ByType) where
 
     -- a table that has an entry has one for each tuple
     module _ (f : ℕ) (symbol : Symbol) (at : slice_get normal.signature.symbols f ≡ Some symbol) where
-      pub symbol_long : c.keeps symbol ≡ all_types symbol →
-          present f ≡ true →
+      pub symbol_long : present f ≡ true →
           length (marked_table (occurs_in c normal) s f)
-          ≡ tuple_count (replicate (symbol.parameters + length symbol.arguments) s.size)
-      symbol_long keeps is =
-          table_present f _ (symbol-at c normal f symbol at) is
-          ∙ ap (λ n. tuple_count (replicate (n + length symbol.arguments) s.size))
-          (ap (count_by (λ (k : Bool). k)) keeps ∙ kept_all symbol.parameters)
+          ≡ tuple_count (replicate (kept_count c symbol + length symbol.arguments) s.size)
+      symbol_long is = table_present f _ (symbol-at c normal f symbol at) is
 
       -- and the entries of a function's are numbers of the domain
       pub symbol_below : (ty : Ty) → symbol.result ≡ Some ty → (i : ℕ) →
@@ -321,6 +318,23 @@ module _ (c : Choices) (normal : Normal) (by_type : c.marking ≡ ByType) where
         (length normal.signature.symbols + length normal.signature.constructors))
         ≡ tuple_count (replicate 2 s.size)
     mark_long is = table_present (symbols + constructors) _ (shared-at c normal by_type) is
+
+    -- the entries of a tag's table are numbers of the domain
+    pub tag_entry : c.binding ≡ ByTag → (i : ℕ) →
+        present (length normal.signature.symbols + length normal.signature.constructors) ≡ true →
+        i < length (marked_table (occurs_in c normal) s
+        (length normal.signature.symbols + length normal.signature.constructors)) →
+        slice_index (marked_table (occurs_in c normal) s
+        (length normal.signature.symbols + length normal.signature.constructors)) i < s.size
+    tag_entry tag i is within =
+        let table : List ℕ = table_of s (count_below (symbols + constructors) present) in
+        let same : table ≡ marked_table present s (symbols + constructors) =
+        sym (ap (λ b. cond b table []) is) in
+        let inside : i < length table = subst (λ t. i < length t) (sym same) within in
+        subst (λ t. slice_index t i < s.size) same
+        (subst (λ (b : Binding). slice_index table i < cond (is_guard b) 2 s.size) tag
+        ((well.tables (count_below (symbols + constructors) present) _
+        (symbol_passes (symbols + constructors) _ (shared-at c normal by_type) is)).below i inside))
 
   -- what a marked symbol that is no tag gives stands in its table
   pub entry_is : (s : Structure) (number : ℕ) (values : List ℕ) →
@@ -386,6 +400,20 @@ two_fit size member number first second =
       place_within (replicate 2 size) (member ∷ number ∷ []) (first, (second, tt)),
     )
 
+abbrev shared_in : Parts → ℕ
+shared_in m = length m.normal.signature.symbols + length m.normal.signature.constructors
+
+-- what a guard or tag gives that doesn't occur
+mark_absent : (m : Parts) (member number : ℕ) →
+    occurs_in m.choices m.normal (shared_in m) ≡ false →
+    cond (not (is_guard m.choices.binding)) number 0 ≡ mark_in m member number
+mark_absent m member number fails =
+    sym (ap (λ b. cond b ((reading m.model).symbol_at
+    (count_below (shared_in m) (occurs_in m.choices m.normal)) (member ∷ number ∷ []))
+    (cond (is_tag m.choices m.normal (shared_in m)) number 0)) fails
+    ∙ ap (λ b. cond (b && not (is_guard m.choices.binding)) number 0)
+    (le-leb (shared_in m) (shared_in m) (omega arith)))
+
 -- the table of the guard or tag, as code reads it
 module _ (m : Parts) (by_type : m.choices.marking ≡ ByType)
     (well : IsWellFormed (encoded m.choices m.normal).problem.signature m.model)
@@ -443,10 +471,30 @@ module _ (m : Parts) (by_type : m.choices.marking ≡ ByType)
           mark_fills is,
           two_fit m.model.size member number member_within number_within,
         )))
-        (λ fails.
-        sym (ap (λ b. cond b ((reading m.model).symbol_at
-        (count_below shared (occurs_in m.choices m.normal)) (member ∷ number ∷ []))
-        (cond (is_tag m.choices m.normal shared) number 0)) fails
-        ∙ ap (λ b. cond (b && not (is_guard m.choices.binding)) number 0)
-        (le-leb shared shared (omega arith))))
+        (mark_absent m member number)
         (cases_Bool (occurs_in m.choices m.normal shared))
+
+-- what a tag gives is a number of the domain
+pub mark_below : (m : Parts) → m.choices.marking ≡ ByType →
+    IsWellFormed (encoded m.choices m.normal).problem.signature m.model →
+    m.choices.binding ≡ ByTag → (member number : ℕ) → member < m.model.size →
+    number < m.model.size → mark_in m member number < m.model.size
+mark_below m by_type well tag member number member_within number_within =
+    ⊎_elim
+    (λ is.
+    let inside : place (replicate 2 m.model.size) (member ∷ number ∷ [])
+    < length (table_in m (shared_in m)) =
+    omega (
+      arith,
+      mark_long m.choices m.normal by_type m.model well is,
+      place_two m.model.size member number,
+      two_fit m.model.size member number member_within number_within,
+    ) in
+    subst (λ n. n < m.model.size)
+    (sym (entry_present m.choices m.normal by_type m.model (shared_in m) (member ∷ number ∷ []) is))
+    (tag_entry m.choices m.normal by_type m.model well tag _ is inside))
+    (λ fails.
+    subst (λ n. n < m.model.size)
+    (ap (λ (b : Binding). cond (not (is_guard b)) number 0) (sym tag)
+    ∙ mark_absent m member number fails) number_within)
+    (cases_Bool (occurs_in m.choices m.normal (shared_in m)))

@@ -1,5 +1,5 @@
 -- What the symbols of an encoded problem stand for, and what the merged structure gives for each.
-use Rattle.std.specs.Prelude.{ℕ, zero, suc, ◌≡◌, ◌<◌, ◌≤◌, ◌+◌, ◌++◌, Bool, true, List, [], ◌∷◌, map, length, replicate, cond, count_by, get_or, slice_get, option_map, Some}
+use Rattle.std.specs.Prelude.{ℕ, zero, suc, ◌≡◌, ◌<◌, ◌≤◌, ◌+◌, ◌++◌, Bool, true, List, [], ◌∷◌, map, length, replicate, cond, get_or, slice_get, option_map, Some}
 use Rattle.std.proofs.Common.{refl, sym, ap, subst, ◌∙◌, arith}
 use Rattle.std.proofs.lemmas.Bool.{lt-ltb}
 use Rattle.std.proofs.lemmas.List.{length-replicate, length-map, length-append}
@@ -30,7 +30,6 @@ use Rattle.enc_laws.proofs.MergedStructure.{symbol_at-other, symbol_at-shared}
 use Rattle.enc_laws.proofs.MarksFound.{passing_found, map_found, InLists, in_first, in_second, lists_found, symbol_found, constructor_found, length-symbols, length-constructors}
 use Rattle.enc_models.specs.Calls.Merging.{Parts, signature_in, tables_in, typed_in, merged_in, structure_in, members_in, IsMerging, AreNumbers, IsSymbolFor, IsConstructorFor}
 use Rattle.enc_models.specs.Calls.Blocks.{AreMarksIn}
-use Rattle.enc_models.proofs.Symbols.{kept_all}
 
 -- a symbol of the encoded problem is a marked one that occurs
 pub record IsEncoded (c : Choices) (normal : Normal) (problem : Encoded) (at : ℕ)
@@ -283,8 +282,8 @@ module _ (m : Parts) (at : ℕ) (values : List ℕ) (of : IsSymbolOf m at values
         ∙ ap (λ (ms : List Mark). get_or ms at other) (sym same)
         ∙ is
 
-    pub symbol_for : IsMerging m → (f : ℕ) → found ≡ mark.Symbol f → IsSymbolFor m at f values
-    symbol_for ready f variant =
+    pub symbol_for : (f : ℕ) → found ≡ mark.Symbol f → IsSymbolFor m at f values
+    symbol_for f variant =
         let at_f = of.standing.on_symbol f (mark_is ∙ variant) in
         record {
           symbol = at_f.1.0;
@@ -294,11 +293,7 @@ module _ (m : Parts) (at : ℕ) (values : List ℕ) (of : IsSymbolOf m at values
           };
           below =
               subst (λ n. AreNumbers m n values)
-              (at_f.1.2
-              ∙ ap (λ n. n + length at_f.1.0.arguments)
-              (ap (count_by (λ (k : Bool). k)) (ready.kept at_f.1.0)
-              ∙ kept_all at_f.1.0.parameters))
-              of.below;
+              at_f.1.2 of.below;
         }
 
     pub symbol_gives : (f : ℕ) → found ≡ mark.Symbol f →

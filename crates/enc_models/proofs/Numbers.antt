@@ -1,7 +1,7 @@
 -- The members and elements that numbers of a merged domain are read as, and the places of their
 -- tuples.
 use Rattle.std.specs.Prelude.{ℕ, zero, suc, ◌≡◌, ◌<◌, ◌≤◌, ◌+◌, ◌*◌, List, [], ◌∷◌, map, length, replicate, take, get_or, slice_index}
-use Rattle.std.proofs.Common.{refl, sym, ◌∙◌, arith}
+use Rattle.std.proofs.Common.{refl, sym, ap, subst, ◌∙◌, arith}
 use Rattle.std.proofs.lemmas.List.{get_or-replicate, length-replicate, length-map, get_or_default}
 use Rattle.enc_base.specs.Tables.{EachBelow, tuple_count, place}
 use Rattle.tf_core.specs.Structures.{Typed}
@@ -10,7 +10,9 @@ use Rattle.enc_base.proofs.Placing.{EachBelow-at, EachBelow-same_length, place-s
 use Rattle.tf_stamp.specs.Merged.{merged_size, member_in, element_in}
 use Rattle.tf_stamp.proofs.Merged.{member_in-within}
 use Rattle.enc_laws.specs.MergedStructure.{elements_read}
+use Rattle.enc_laws.proofs.Closed as closed
 use Rattle.enc_laws.proofs.Stamped.{IsElement, element_of}
+use Rattle.enc_models.specs.Calls.Sources.{numbers_at}
 
 -- a structure with members of these sizes
 abbrev domain_of : List ℕ → Typed
@@ -185,3 +187,89 @@ module _ (sizes members values : List ℕ)
           ∙ place-whole bounds_of elements_of i each_element (rw (length-map _ _) whole);
       below = each_element;
     }
+
+-- numbers at places are below a bound that all are below
+pub numbers_at-below : (bound : ℕ) (values places : List ℕ) →
+    EachBelow (replicate (length values) bound) values →
+    EachBelow (replicate (length places) (length values)) places →
+    EachBelow (replicate (length places) bound) (numbers_at values places)
+numbers_at-below bound values [] below within = tt
+numbers_at-below bound values (at ∷ places) below within = (
+  closed.EachBelow-at bound (length values) values below at within.0,
+  numbers_at-below bound values places below within.1,
+)
+
+-- the place of the tuple of the members of numbers at places, found from the left
+module _ (sizes values places : List ℕ)
+    (below : EachBelow (replicate (length values) (merged_size sizes)) values)
+    (within : EachBelow (replicate (length places) (length values)) places)
+  where
+    abbrev told : List ℕ
+    told = numbers_at values places
+
+    told_long : length told ≡ length places
+    told_long = length-map places (slice_index values)
+
+    told_below : EachBelow (replicate (length told) (merged_size sizes)) told
+    told_below =
+        subst (λ n. EachBelow (replicate n (merged_size sizes)) told) (sym told_long)
+        (numbers_at-below (merged_size sizes) values places below within)
+
+    pub place_within : (i : ℕ) → i < length places → get_or places i 0 < length values
+    place_within i inside =
+        closed.EachBelow-at (length values) (length places) places within i inside
+
+    pub told_number : (i : ℕ) → i < length places →
+        get_or values (get_or places i 0) 0 < merged_size sizes
+    told_number i inside =
+        number_below sizes (length values) (get_or places i 0) values below (place_within i inside)
+
+    module _ (i at v : ℕ) (inside : i < length places)
+        (is : v ≡ member_in sizes (get_or values (get_or places i 0) 0))
+        (so_far : at ≡ place (take i (replicate (length places) (length sizes)))
+        (take i (map (member_in sizes) told)))
+      where
+        inside_told : i < length told
+        inside_told = omega (arith, inside, told_long)
+
+        told_is : v ≡ member_in sizes (get_or told i 0)
+        told_is =
+            is
+            ∙ ap (member_in sizes)
+            (sym (get_or-mapped (slice_index values) places i (get_or places i 0) inside
+            (get_or_default places i 0 (get_or places i 0) inside)))
+
+        so_far_told : at ≡ place (take i (replicate (length told) (length sizes)))
+            (take i (map (member_in sizes) told))
+        so_far_told =
+            subst
+            (λ n. at
+            ≡ place (take i (replicate n (length sizes))) (take i (map (member_in sizes) told)))
+            (sym told_long) so_far
+
+        pub told-step : at * length sizes + v
+            ≡ place (take (i + 1) (replicate (length places) (length sizes)))
+            (take (i + 1) (map (member_in sizes) told))
+        told-step =
+            subst
+            (λ n. at * length sizes + v
+            ≡ place (take (i + 1) (replicate n (length sizes)))
+            (take (i + 1) (map (member_in sizes) told)))
+            told_long (members-step sizes told told_below i at v inside_told told_is so_far_told)
+
+        pub told-fit : at * length sizes + v < tuple_count (replicate (length places) (length sizes))
+        told-fit =
+            subst (λ n. at * length sizes + v < tuple_count (replicate n (length sizes))) told_long
+            (members-fit sizes told told_below i at v inside_told told_is so_far_told)
+
+    pub told_placed : (i at : ℕ) → length places ≤ i →
+        at ≡ place (take i (replicate (length places) (length sizes)))
+        (take i (map (member_in sizes) told)) →
+        IsPlaced (replicate (length places) (length sizes)) (map (member_in sizes) told) at
+    told_placed i at whole so_far =
+        subst (λ n. IsPlaced (replicate n (length sizes)) (map (member_in sizes) told) at) told_long
+        (members_placed sizes told told_below i at (omega (arith, whole, told_long))
+        (subst
+        (λ n. at
+        ≡ place (take i (replicate n (length sizes))) (take i (map (member_in sizes) told)))
+        (sym told_long) so_far))

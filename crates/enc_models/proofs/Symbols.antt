@@ -1,15 +1,14 @@
 -- What a symbol of the merged structure gives, from the table of the typed one.
-use Rattle.std.specs.Prelude.{ℕ, zero, suc, ◌≡◌, ◌<◌, ◌≤◌, ◌+◌, Bool, true, cond, List, [], ◌∷◌, map, length, replicate, take, drop, get_or, count_by, option_map, slice_index, Option, Some, None}
+use Rattle.std.specs.Prelude.{ℕ, ◌≡◌, ◌<◌, ◌≤◌, ◌+◌, ◌-◌, Bool, List, [], map, length, replicate, take, drop, get_or, option_map, slice_index, Option, Some, None}
 use Rattle.std.proofs.Common.{refl, sym, ap, subst, ◌∙◌, arith}
-use Rattle.std.proofs.lemmas.List.{length-replicate, length-map, get_or_default}
-use Rattle.std.proofs.lemmas.List.Sums.{sum_by-cons}
+use Rattle.std.proofs.lemmas.List.{length-replicate, length-map, length-take-le, get_or_default, get_or-drop, get_or-take}
 use Rattle.std.proofs.lemmas.Simd.{map-map}
-use Rattle.std.proofs.lemmas.Option.{slice_get_within, get_or_from_slice_get}
+use Rattle.std.proofs.lemmas.Option.{slice_get-map, slice_get_within, get_or_from_slice_get}
 use Rattle.enc_base.specs.Tables.{EachBelow, tuple_count, place}
 use Rattle.tf_core.specs.declared.ty.Ty.{Ty}
 use Rattle.tf_core.specs.declared.signature.Symbol.{Symbol}
 use Rattle.tf_core.specs.Structures.{AreArguments}
-use Rattle.tf_naked.specs.Covers.{argument_parameters}
+use Rattle.tf_naked.specs.Covers.{parameter_of, argument_parameters}
 use Rattle.tf_core.specs.TypedTables.{constructor_entry, symbol_entry}
 use Rattle.tf_models.specs.Fit.{bounds_at, parameters_at, block_count}
 use Rattle.enc_base.specs.Tuples.{tuple_at, IsPlaced}
@@ -21,40 +20,24 @@ use Rattle.tf_models.proofs.SymbolBlocks.{parameters_below}
 use Rattle.tf_models.proofs.TypeMembers as type_members
 use Rattle.tf_models.proofs.TypeMembers.{constructor_long, member_below}
 use Rattle.tf_models.proofs.Entries.{constructors_fit, symbol_block, block_count-fits}
-use Rattle.tf_stamp.specs.Merged.{merged_size, stamp, member_in}
-use Rattle.enc_laws.specs.MergedStructure.{elements_read, members_read, value_at, merged_value, merged_symbol, merged_at}
-use Rattle.enc_laws.proofs.MergedFormed.{EachBelow-front, EachBelow-back}
+use Rattle.tf_stamp.specs.Merged.{merged_size, stamp}
+use Rattle.enc_laws.specs.MergedStructure.{elements_read, kept_count, members_read, value_at, merged_value, merged_at}
+use Rattle.enc_laws.proofs.MergedFormed.{EachBelow-back}
+use Rattle.enc_laws.proofs.CoversRead.{AreCovered}
 use Rattle.enc_laws.proofs.Selected.{result_formed}
 use Rattle.enc_models.specs.declared.blocks.Block.{Block}
 use Rattle.enc_models.specs.Calls.Blocks.{IsKept}
+use Rattle.enc_models.specs.Calls.Sources.{sources, numbers_at}
 use Rattle.enc_models.specs.Calls.Merging.{Parts, signature_in, tables_in, typed_in, merged_in, members_in, IsMerging, AreNumbers, StandsForSymbol, IsSymbolFor, IsConstructorFor}
 use Rattle.enc_models.proofs.BlockEntries.{block_fits, entry_within, entry_is}
-use Rattle.enc_models.proofs.Numbers.{members_below}
+use Rattle.enc_models.proofs.Numbers.{members_below, numbers_at-below}
+use Rattle.enc_models.proofs.ParameterSources.{all_covered, length-sources_from, sources_from-read, sources_from-below}
 
--- where all type arguments are written, so many stand before the arguments, and they are members
-
-pub kept_all : (count : ℕ) → count_by (λ keeps. keeps) (replicate count true) ≡ count
-kept_all zero = refl
-kept_all (suc count) =
-    let one : 1 + count_by (λ keeps. keeps) (replicate count true) ≡ suc count =
-    omega (arith, kept_all count) in
-    sum_by-cons (λ (keeps : Bool). cond keeps 1 0) true (replicate count true) ∙ one
-
-members_read-all : (sizes : List ℕ) (count parameter : ℕ) (places : List (Option ℕ))
-    (kept values : List ℕ) → length kept ≡ count →
-    members_read sizes (replicate count true) parameter places kept values
-    ≡ map (member_in sizes) kept
-members_read-all sizes zero parameter places [] values all = refl
-members_read-all sizes zero parameter places (u ∷ kept) values all = absurd (omega (arith, all))
-members_read-all sizes (suc count) parameter places [] values all = absurd (omega (arith, all))
-members_read-all sizes (suc count) parameter places (u ∷ kept) values all =
-    ap (λ ms. member_in sizes u ∷ ms)
-    (members_read-all sizes count (parameter + 1) places kept values (omega (arith, all)))
-
--- a marked symbol as code reads it, and the numbers for its type arguments and its arguments
+-- a marked symbol as code reads it, and the numbers for its arguments and for its type arguments
+-- that are kept
 pub record IsGiven (m : Parts) (at f : ℕ) (symbol : Symbol) (values : List ℕ) : Type 0 where
   pub marked : StandsForSymbol m at f symbol
-  pub below : AreNumbers m (symbol.parameters + length symbol.arguments) values
+  pub below : AreNumbers m (kept_count m.choices symbol + length symbol.arguments) values
 
 pub symbol_read : (m : Parts) (at f : ℕ) (values : List ℕ) → IsSymbolFor m at f values →
     (symbols : List Symbol) (symbol : Symbol) → symbols ≡ (signature_in m).symbols →
@@ -73,40 +56,118 @@ module _ (m : Parts) (ready : IsMerging m) (at f : ℕ) (symbol : Symbol) (value
     abbrev sizes : List ℕ
     sizes = m.model.sizes
 
+    abbrev keeps : List Bool
+    keeps = m.choices.keeps symbol
+
+    abbrev count : ℕ
+    count = kept_count m.choices symbol
+
     abbrev kept : List ℕ
-    kept = take symbol.parameters values
+    kept = take count values
 
     abbrev own : List ℕ
-    own = drop symbol.parameters values
+    own = drop count values
 
-    pub values_long : symbol.parameters ≤ length values
-    values_long =
+    -- the numbers that tell the members for the parameters
+    abbrev told : List ℕ
+    told = numbers_at values (sources (m.choices.keeps symbol) symbol)
+
+    values_count : length values ≡ count + length symbol.arguments
+    values_count =
+        sym (EachBelow-same_length (replicate (count + length symbol.arguments) (merged_size sizes))
+        values given.below)
+        ∙ length-replicate (count + length symbol.arguments) (merged_size sizes)
+
+    -- the arguments stand behind the type arguments that are kept
+    module _ (arguments : List Ty) (are : arguments ≡ symbol.arguments) where
+      pub arguments_within : length arguments ≤ length values
+      arguments_within = omega (arith, values_count, ap (λ (types : List Ty). length types) are)
+
+      pub own_behind : drop (length values - length arguments) values
+          ≡ drop (kept_count m.choices symbol) values
+      own_behind =
+          let e : length values - length arguments ≡ count =
+          omega (arith, values_count, ap (λ (types : List Ty). length types) are) in
+          ap (λ n. drop n values) e
+
+    own_below : AreNumbers m (length symbol.arguments) own
+    own_below =
+        EachBelow-back (merged_size sizes) count (length symbol.arguments) values given.below
+
+    kept_long : length kept ≡ count
+    kept_long = length-take-le count values (omega (arith, values_count))
+
+    own_long : length own ≡ length symbol.arguments
+    own_long =
+        sym (EachBelow-same_length (replicate (length symbol.arguments) (merged_size sizes)) own
+        own_below)
+        ∙ length-replicate (length symbol.arguments) (merged_size sizes)
+
+    pub all_numbers : AreNumbers m (length values) values
+    all_numbers = subst (λ n. AreNumbers m n values) (sym values_count) given.below
+
+    -- the sources of the symbol
+
+    covered : AreCovered (argument_parameters symbol) keeps 0
+    covered = all_covered m.choices ready.kept symbol
+
+    places_long : length (argument_parameters symbol) ≤ length own
+    places_long = omega (arith, own_long, length-map symbol.arguments parameter_of)
+
+    behind : (k : ℕ) → get_or values (count + k) 0 ≡ get_or own k 0
+    behind k = sym (get_or-drop count values k 0)
+
+    ahead : (i : ℕ) → i < length kept → get_or values (0 + i) 0 ≡ get_or kept i 0
+    ahead i within =
+        let e : 0 + i ≡ i = omega arith in
+        ap (λ n. get_or values n 0) e
+        ∙ sym (get_or-take count values i 0 (omega (arith, within, kept_long)))
+
+    sources_long : length (sources keeps symbol) ≡ symbol.parameters
+    sources_long =
+        length-sources_from 0 0 count (argument_parameters symbol) keeps ∙ ready.each_kept symbol
+
+    pub sources_below :
+        EachBelow (replicate (length (sources (m.choices.keeps symbol) symbol)) (length values))
+        (sources (m.choices.keeps symbol) symbol)
+    sources_below =
+        subst (λ n. EachBelow (replicate n (length values)) (sources keeps symbol))
+        (sym (length-sources_from 0 0 count (argument_parameters symbol) keeps))
+        (sources_from-below sizes own values count (argument_parameters symbol) places_long behind
+        (length values) 0 0 keeps covered (omega arith) (omega (arith, values_count, own_long)))
+
+    told_below : AreNumbers m symbol.parameters told
+    told_below =
+        subst (λ n. AreNumbers m n told) sources_long
+        (numbers_at-below (merged_size sizes) values (sources keeps symbol) all_numbers
+        sources_below)
+
+    told_read : members_in m told
+        ≡ members_read sizes keeps 0 (argument_parameters symbol) kept own
+    told_read =
+        sources_from-read sizes own values count (argument_parameters symbol) places_long behind
+        0 0 keeps kept covered (sym kept_long) ahead
+
+    pub sources_within : f < length m.sources
+    sources_within =
         omega (
           arith,
-          EachBelow-same_length
-              (replicate (symbol.parameters + length symbol.arguments) (merged_size sizes)) values
-              given.below,
-          length-replicate (symbol.parameters + length symbol.arguments) (merged_size sizes),
+          slice_get_within (signature_in m).symbols f symbol given.marked.symbol_at,
+          ap (λ (all : List (List ℕ)). length all) ready.sources_are,
+          length-map (signature_in m).symbols (λ one. sources (m.choices.keeps one) one),
         )
 
-    kept_below : AreNumbers m symbol.parameters kept
-    kept_below =
-        EachBelow-front (merged_size sizes) symbol.parameters (length symbol.arguments) values
-        given.below
-
-    pub own_below : AreNumbers m (length symbol.arguments) own
-    own_below =
-        EachBelow-back (merged_size sizes) symbol.parameters (length symbol.arguments) values
-        given.below
-
-    pub kept_long : length kept ≡ symbol.parameters
-    kept_long =
-        sym (EachBelow-same_length (replicate symbol.parameters (merged_size sizes)) kept
-        kept_below)
-        ∙ length-replicate symbol.parameters (merged_size sizes)
-
-    pub kept_numbers : AreNumbers m (length kept) kept
-    kept_numbers = subst (λ n. AreNumbers m n kept) (sym kept_long) kept_below
+    -- the sources as code reads them
+    pub sources_read : (found other : List ℕ) → found ≡ get_or m.sources f other →
+        found ≡ sources (m.choices.keeps symbol) symbol
+    sources_read found other is =
+        is
+        ∙ ap (λ (all : List (List ℕ)). get_or all f other) ready.sources_are
+        ∙ get_or_from_slice_get
+        (map (λ one. sources (m.choices.keeps one) one) (signature_in m).symbols) f
+        (sources keeps symbol) other
+        (slice_get-map (λ one. sources (m.choices.keeps one) one) (signature_in m).symbols f
+        ∙ ap (option_map (λ one. sources (m.choices.keeps one) one)) given.marked.symbol_at)
 
     pub table_within : f < length m.model.symbols
     table_within =
@@ -116,39 +177,42 @@ module _ (m : Parts) (ready : IsMerging m) (at f : ℕ) (symbol : Symbol) (value
           ready.ready.well_formed.tables.symbol_count,
         )
 
-    pub parameters_fit : tuple_count (replicate (length kept) (length sizes))
+    pub parameters_fit :
+        tuple_count (replicate (length (sources (m.choices.keeps symbol) symbol)) (length sizes))
         ≤ length (get_or m.model.symbols f [])
     parameters_fit =
         subst
         (λ n. tuple_count (replicate n (length sizes)) ≤ length (get_or m.model.symbols f []))
-        (sym kept_long)
+        (sym sources_long)
         (block_count-fits (signature_in m) m.model ready.ready f symbol
         given.marked.symbol_at)
 
     module _ (number : ℕ)
-        (placed : IsPlaced (replicate (length kept) (length sizes)) (members_in m kept) number)
+        (placed : IsPlaced
+        (replicate (length (sources (m.choices.keeps symbol) symbol)) (length sizes))
+        (members_in m told) number)
       where
         pub number_within : number < block_count (tables_in m) symbol
         number_within =
-            subst (λ n. number < tuple_count (replicate n (length sizes))) kept_long
-            (placed_within (replicate (length kept) (length sizes)) (members_in m kept) number
-            placed)
+            subst (λ n. number < tuple_count (replicate n (length sizes))) sources_long
+            (placed_within (replicate (length (sources keeps symbol)) (length sizes))
+            (members_in m told) number placed)
 
         given_block : IsBlock (signature_in m) m.model symbol number
         given_block =
             symbol_block (signature_in m) m.model ready.ready f symbol
             given.marked.symbol_at number number_within
 
-        members_are : parameters_at (tables_in m) symbol number ≡ members_in m kept
+        members_are : parameters_at (tables_in m) symbol number ≡ members_in m told
         members_are =
             let number_is : number
-            ≡ place (replicate symbol.parameters (length sizes)) (members_in m kept) =
+            ≡ place (replicate symbol.parameters (length sizes)) (members_in m told) =
             placed.place_is
-            ∙ ap (λ n. place (replicate n (length sizes)) (members_in m kept)) kept_long in
+            ∙ ap (λ n. place (replicate n (length sizes)) (members_in m told)) sources_long in
             ap (tuple_at (length sizes) symbol.parameters) number_is
             ∙ tuple_at-place (length sizes) ready.ready.well_formed.structure.some
-            symbol.parameters (members_in m kept)
-            (members_below sizes symbol.parameters kept kept_below)
+            symbol.parameters (members_in m told)
+            (members_below sizes symbol.parameters told told_below)
 
         abbrev members : List ℕ
         members = parameters_at (tables_in m) symbol number
@@ -236,18 +300,10 @@ module _ (m : Parts) (ready : IsMerging m) (at f : ℕ) (symbol : Symbol) (value
                   merged_is : (merged_in m).symbol_at f values
                       ≡ merged_value (typed_in m) members symbol.result entry
                   merged_is =
-                      let keeps : m.choices.keeps symbol ≡ replicate symbol.parameters true =
-                      ready.kept symbol in
-                      let count = ap (count_by (λ (k : Bool). k)) keeps ∙ kept_all symbol.parameters in
-                      let all = members_read-all sizes symbol.parameters 0 in
                       ap (λ found. merged_at m.choices (signature_in m) (typed_in m) f found values)
                       given.marked.symbol_at
-                      ∙ ap (λ n. merged_symbol m.choices (typed_in m) f symbol (take n values)
-                      (drop n values)) count
                       ∙ ap (λ ms. merged_value (typed_in m) ms symbol.result
-                      (value_at (typed_in m) f symbol ms own))
-                      (ap (λ ks. members_read sizes ks 0 (argument_parameters symbol) kept own) keeps
-                      ∙ all _ kept own kept_long ∙ sym members_are)
+                      (value_at (typed_in m) f symbol ms own)) (sym told_read ∙ sym members_are)
                       ∙ ap (merged_value (typed_in m) members symbol.result) (sym entry_at)
 
                   pub predicate_is : block.value ≡ None → entry ≡ (merged_in m).symbol_at f values

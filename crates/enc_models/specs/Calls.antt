@@ -1,4 +1,5 @@
 -- Words of private contracts.
+pub mod Sources
 pub mod Blocks
 pub mod Merging
 pub mod Lifting

@@ -25,7 +25,8 @@ pub(crate) struct Block {
 /// The blocks of the table of each symbol that a mark stands for. Any other mark has an empty list.
 ///
 /// A block is kept with a number for each argument. That is less than the entries that the lowered
-/// table has for it: there are at least two numbers for each argument.
+/// table has for it: there are at least two numbers for each argument. So it is at a cover too,
+/// where a member is told by its own number and by the stamps of its elements.
 pub(crate) fn blocks_of_marks(
     alloc: Global,
     signature: &Signature,

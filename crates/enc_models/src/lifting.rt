@@ -6,6 +6,7 @@ ghost use Rattle.enc_base.specs.Tuples.{IsPlaced};
 ghost use Rattle.enc_models.specs.Calls.Lifting.{parts_of, typed_in, bounds_in, numbers_in, entry_in, IsLifting};
 
 use crate::marked::Marked;
+use crate::rows::rank_of;
 use enc_base::List;
 use enc_marks::Choices;
 use structure_tables::TypedSource;
@@ -17,8 +18,6 @@ pub(crate) struct Lifting<'a, C> {
     pub marked: &'a Marked<'a, C>,
     /// The numbers that the elements of each member stand for, in rising order.
     pub picked: &'a [List<u32>],
-    /// The rank of each number of the domain in each member.
-    pub ranks: &'a [List<u32>],
 }
 
 impl<C: Choices> TypedSource for Lifting<'_, C> {
@@ -26,8 +25,7 @@ impl<C: Choices> TypedSource for Lifting<'_, C> {
 
     ghost structure = { λ it. typed_in (parts_of C.choices it.marked.now) };
 
-    ghost is_ready = { λ it.
-        IsLifting (parts_of C.choices it.marked.now) it.picked.now it.ranks.now };
+    ghost is_ready = { λ it. IsLifting (parts_of C.choices it.marked.now) it.picked.now };
 
     fn constructor_value(&self, constructor: u32, members: &[u32]) -> u32 {
         let symbols = self.marked.normal.signature.symbols.as_slice().len();
@@ -48,7 +46,8 @@ impl<C: Choices> TypedSource for Lifting<'_, C> {
         match &stated.result {
             Some(ty) => {
                 let member = self.member_of(ty, members);
-                self.ranks[member as usize].as_slice()[entry as usize]
+                let number = self.marked.read_in(member, entry);
+                rank_of(self.picked[member as usize].as_slice(), number)
             }
             None => entry,
         }
@@ -75,8 +74,7 @@ impl<C: Choices> Lifting<'_, C> {
     // the member that a type is, under members for its variables
     #[cycle(member_of)]
     fn member_of(&self, ty: &Ty, members: &[u32]) -> u32
-        requires ready { IsLifting (parts_of C.choices self.now.marked.now) self.now.picked.now
-            self.now.ranks.now }
+        requires ready { IsLifting (parts_of C.choices self.now.marked.now) self.now.picked.now }
         requires members { EachBelow (replicate (length members.now)
             self.now.marked.now.model.now.size) members.now }
         requires typed { IsType self.now.marked.now.normal.now.signature (length members.now)
@@ -101,8 +99,7 @@ impl<C: Choices> Lifting<'_, C> {
     // the place of the tuple of the members that types are
     #[cycle(member_of)]
     fn place_of_types(&self, types: &[Ty], members: &[u32], table: &[u32]) -> usize
-        requires ready { IsLifting (parts_of C.choices self.now.marked.now) self.now.picked.now
-            self.now.ranks.now }
+        requires ready { IsLifting (parts_of C.choices self.now.marked.now) self.now.picked.now }
         requires members { EachBelow (replicate (length members.now)
             self.now.marked.now.model.now.size) members.now }
         requires typed { AreTypes self.now.marked.now.normal.now.signature (length members.now)
@@ -121,10 +118,10 @@ impl<C: Choices> Lifting<'_, C> {
         at
     }
 
-    // what the table of a symbol gives for members and the numbers that elements stand for
+    // what the table of a symbol gives for the members that are kept and the numbers that elements
+    // stand for
     fn entry(&self, f: u32, symbol: &Symbol, members: &[u32], elements: &[u32]) -> u32
-        requires ready { IsLifting (parts_of C.choices self.now.marked.now) self.now.picked.now
-            self.now.ranks.now }
+        requires ready { IsLifting (parts_of C.choices self.now.marked.now) self.now.picked.now }
         requires at { slice_get self.now.marked.now.normal.now.signature.symbols f
             ≡ Some symbol.now }
         requires arguments { AreArguments (typed_in (parts_of C.choices self.now.marked.now))
@@ -136,20 +133,23 @@ impl<C: Choices> Lifting<'_, C> {
         if table.len() == 0 {
             return 0;
         }
-        table[self.place_of_arguments(symbol, members, elements, table)]
+        let kept = self.marked.kept[f as usize].as_slice();
+        table[self.place_of_arguments(symbol, kept, members, elements, table)]
     }
 
-    // the place of the tuple of members and of the numbers that elements stand for
+    // the place of the tuple of the members that are kept and of the numbers that elements stand
+    // for
     fn place_of_arguments(
         &self,
         symbol: &Symbol,
+        kept: &[bool],
         members: &[u32],
         elements: &[u32],
         table: &[u32],
     ) -> usize
-        requires ready { IsLifting (parts_of C.choices self.now.marked.now) self.now.picked.now
-            self.now.ranks.now }
+        requires ready { IsLifting (parts_of C.choices self.now.marked.now) self.now.picked.now }
         requires typed { IsSymbol self.now.marked.now.normal.now.signature symbol.now }
+        requires kept { kept.now ≡ (C.choices self.now.marked.now.choices.now).keeps symbol.now }
         requires arguments { AreArguments (typed_in (parts_of C.choices self.now.marked.now))
             symbol.now members.now elements.now }
         requires entries { tuple_count
@@ -160,8 +160,10 @@ impl<C: Choices> Lifting<'_, C> {
     {
         let size = self.marked.model.size as usize;
         let mut at = 0usize;
-        for member in members {
-            at = at * size + *member as usize;
+        for (parameter, is_kept) in kept.iter().enumerate() {
+            if *is_kept {
+                at = at * size + members[parameter] as usize;
+            }
         }
         for (i, ty) in symbol.arguments.as_slice().iter().enumerate() {
             let member = self.member_of(ty, members);

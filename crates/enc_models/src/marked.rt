@@ -1,8 +1,9 @@
-ghost use Rattle.std.specs.Prelude.{◌≡◌, ◌+◌, ◌<◌, ◌^◌, cond, length, not, IfOk};
+ghost use Rattle.std.specs.Prelude.{◌≡◌, ◌+◌, ◌<◌, ◌^◌, cond, eqb, length, not, IfOk};
 ghost use Rattle.enc_marks.specs.Encoded as encoding;
 ghost use Rattle.enc_marks.specs.declared.choices.Marking.TheVariants.{ByType};
 ghost use Rattle.enc_marks.specs.Encoded.{is_guard};
-ghost use Rattle.enc_models.specs.Calls.Lifting.{parts_of, occurs_in, mark_count, mark_number, mark_in, table_in, picks_in, ArePlaces, IsMarked};
+ghost use Rattle.enc_laws.specs.Lifted.{read_as};
+ghost use Rattle.enc_models.specs.Calls.Lifting.{parts_of, occurs_in, mark_count, mark_number, mark_in, table_in, picks_in, gives_below, AreGiven, AreGivenIn, AreNoted, ArePlaces, IsMarked};
 
 use enc_base::{List, NoMemory};
 use enc_marks::{Binding, Choices, Elements, Mark};
@@ -19,6 +20,8 @@ pub(crate) struct Marked<'a, C> {
     pub model: &'a Structure,
     /// The number of the table of each of them, if it has one.
     pub places: &'a [Option<u32>],
+    /// Of each symbol, which of its type arguments are kept.
+    pub kept: &'a [List<bool>],
 }
 
 /// Where the tables stand of symbols, of constructors, and of the guard or tag.
@@ -61,6 +64,15 @@ fn number_of(mark: &Mark, symbols: usize, constructors: usize) -> usize
     }
 }
 
+// notes a number, if it is one of the list's
+fn note(given: &mut [bool], number: u32)
+    ensures { AreNoted (λ v. eqb v number) given.old given.new }
+{
+    if (number as usize) < given.len() {
+        given[number as usize] = true;
+    }
+}
+
 impl<C: Choices> Marked<'_, C> {
     /// The table of one of them, or nothing where it doesn't occur.
     pub fn table(&self, number: usize) -> &[u32]
@@ -74,19 +86,75 @@ impl<C: Choices> Marked<'_, C> {
         }
     }
 
-    /// Whether a number is an element of a member.
-    pub fn picks(&self, member: u32, number: u32) -> bool
+    /// Which numbers the tag gives in a member, where these are its elements. Else nothing is
+    /// looked at, and the list is empty.
+    pub fn given(&self, alloc: Global, member: u32) -> Result<Vec<bool>, NoMemory>
+        requires ready { IsMarked (parts_of C.choices self.now) }
+        requires member { member < self.now.model.now.size }
+        ensures { IfOk result (λ given.
+            AreGivenIn (parts_of C.choices self.now) member given.items) }
+    {
+        match self.choices.elements() {
+            Elements::Image => self.image(alloc, member),
+            _ => Ok(Vec::new(alloc)),
+        }
+    }
+
+    // for each number of the domain, whether the tag gives it in a member
+    fn image(&self, alloc: Global, member: u32) -> Result<Vec<bool>, NoMemory>
+        requires ready { IsMarked (parts_of C.choices self.now) }
+        requires member { member < self.now.model.now.size }
+        ensures { IfOk result (λ given. AreGiven (mark_in (parts_of C.choices self.now) member)
+            self.now.model.now.size given.items) }
+    {
+        let mut given = vec![in alloc; false; self.model.size as usize]?;
+        self.note_marks(member, &mut given);
+        Ok(given)
+    }
+
+    // notes the numbers that the tag gives in a member
+    fn note_marks(&self, member: u32, given: &mut [bool])
+        requires ready { IsMarked (parts_of C.choices self.now) }
+        requires member { member < self.now.model.now.size }
+        ensures { AreNoted (gives_below (mark_in (parts_of C.choices self.now) member)
+            self.now.model.now.size) given.old given.new }
+    {
+        for number in 0..self.model.size {
+            note(given, self.mark(member, number));
+        }
+    }
+
+    /// Whether a number is an element of a member in which the tag gives these.
+    pub fn picks(&self, member: u32, number: u32, given: &[bool]) -> bool
         requires ready { IsMarked (parts_of C.choices self.now) }
         requires member { member < self.now.model.now.size }
         requires number { number < self.now.model.now.size }
+        requires given { AreGivenIn (parts_of C.choices self.now) member given.now }
         ensures { result ≡ picks_in (parts_of C.choices self.now) member number }
     {
         let mark = self.mark(member, number);
         match self.choices.elements() {
             Elements::Guarded => mark == 1,
-            Elements::Image => unreachable!(),
+            Elements::Image => given[number as usize],
             Elements::Fixed => mark == number,
             Elements::All => true,
+        }
+    }
+
+    /// What a number is read as in a member.
+    pub fn read_in(&self, member: u32, number: u32) -> u32
+        requires ready { IsMarked (parts_of C.choices self.now) }
+        requires member { member < self.now.model.now.size }
+        requires number { number < self.now.model.now.size }
+        ensures exact { result ≡ read_as (C.choices self.now.choices.now).elements
+            (mark_in (parts_of C.choices self.now) member) number }
+        ensures within { result < self.now.model.now.size }
+    {
+        match self.choices.elements() {
+            Elements::Guarded => number,
+            Elements::Image => self.mark(member, number),
+            Elements::Fixed => number,
+            Elements::All => number,
         }
     }
 

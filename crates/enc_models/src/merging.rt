@@ -5,6 +5,7 @@ ghost use Rattle.enc_base.specs.Tuples.{IsPlaced};
 ghost use Rattle.tf_stamp.specs.Merged.{merged_size};
 ghost use Rattle.enc_marks.specs.declared.choices.Binding.TheVariants.{ByGuard, ByTag};
 ghost use Rattle.enc_laws.specs.MergedStructure.{elements_read, merged_mark};
+ghost use Rattle.enc_models.specs.Calls.Sources.{numbers_at};
 ghost use Rattle.enc_models.specs.Calls.Merging.{parts_of, tables_in, typed_in, merged_in, structure_in, members_in, IsMerging, AreNumbers, IsSymbolFor, IsConstructorFor};
 
 use crate::blocks::Block;
@@ -26,6 +27,8 @@ pub(crate) struct Merging<'a, C> {
     pub model: &'a TypedStructure,
     /// The merged domain of the tables.
     pub stamped: &'a Stamped,
+    /// Of each symbol, for each of its parameters, the place of the argument that tells its member.
+    pub sources: &'a [List<usize>],
     /// The blocks of the table of each symbol that a mark stands for.
     pub blocks: &'a [List<Block>],
 }
@@ -117,15 +120,37 @@ impl<C: Choices> Merging<'_, C> {
     {
         let symbol = &self.normal.signature.symbols.as_slice()[f as usize];
         let table = self.model.symbol_table(f);
-        let (kept, own) = values.split_at(symbol.parameters as usize);
-        let number = self.place_of_members(kept, table);
+        let sources = self.sources[f as usize].as_slice();
+        let number = self.place_of_sources(sources, values, table);
         let block = &self.blocks[at as usize].as_slice()[number];
+        let (_, own) = values.split_at(values.len() - symbol.arguments.as_slice().len());
         let place = self.place_in_block(block.arguments.as_slice(), own, table);
         let entry = table[block.start + place];
         match block.value {
             None => entry,
             Some(member) => self.stamped.stamp(member, entry),
         }
+    }
+
+    // the place of the tuple of the members that the numbers at some places are, in a table with an
+    // entry for each tuple
+    fn place_of_sources(&self, sources: &[usize], values: &[u32], table: &[u32]) -> usize
+        requires ready { IsMerging (parts_of C.choices self.now) }
+        requires sources { EachBelow (replicate (length sources.now) (length values.now))
+            sources.now }
+        requires numbers { AreNumbers (parts_of C.choices self.now) (length values.now) values.now }
+        requires entries { tuple_count
+            (replicate (length sources.now) (length self.now.model.now.sizes)) ≤ length table.now }
+        ensures exact { IsPlaced
+            (replicate (length sources.now) (length self.now.model.now.sizes))
+            (members_in (parts_of C.choices self.now) (numbers_at values.now sources.now)) result }
+    {
+        let count = self.model.sizes.as_slice().len();
+        let mut at = 0usize;
+        for source in sources {
+            at = at * count + self.stamped.member_of(values[*source]) as usize;
+        }
+        at
     }
 
     // the place, in a block whose arguments have these members, of the elements that numbers are

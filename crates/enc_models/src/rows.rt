@@ -1,19 +1,17 @@
-ghost use Rattle.std.specs.Prelude.{◌≡◌, ◌<◌, ◌^◌, length, IfOk};
+ghost use Rattle.std.specs.Prelude.{◌≡◌, ◌<◌, ◌≤◌, ◌^◌, Bool, ℕ, length, IfOk};
 ghost use Rattle.enc_marks.specs.Occurrence.{count_below};
-ghost use Rattle.enc_models.specs.Calls.Lifting.{parts_of, picks_in, typed_in, ArePicked, AreRanks, AreRows, IsMarked};
+ghost use Rattle.enc_models.specs.Calls.Lifting.{parts_of, picks_in, typed_in, ArePicked, AreRows, IsMarked};
 
 use crate::marked::Marked;
 use enc_base::{List, NoMemory};
 use enc_marks::Choices;
 use std::alloc::Global;
 
-/// The elements of each member: how many there are, the numbers that they stand for, and the rank
-/// of each number of the domain.
+/// The elements of each member: how many there are, and the numbers that they stand for.
 #[derive(Drop)]
 pub(crate) struct Rows {
     pub sizes: List<u32>,
     pub picked: List<List<u32>>,
-    pub ranks: List<List<u32>>,
 }
 
 impl<C: Choices> Marked<'_, C> {
@@ -25,22 +23,16 @@ impl<C: Choices> Marked<'_, C> {
         ensures sizes { IfOk result (λ rows. rows.sizes
             ≡ (typed_in (parts_of C.choices self.now)).sizes) }
         ensures each { IfOk result (λ rows. AreRows (parts_of C.choices self.now)
-            self.now.model.now.size rows.picked rows.ranks) }
+            self.now.model.now.size rows.picked) }
     {
         let mut sizes = List::new(alloc);
         let mut picked = List::new(alloc);
-        let mut ranks = List::new(alloc);
         for member in 0..bound {
             let row = self.row(alloc, member, bound)?;
             sizes.push(row.size)?;
             picked.push(row.picked)?;
-            ranks.push(row.ranks)?;
         }
-        Ok(Rows {
-            sizes,
-            picked,
-            ranks,
-        })
+        Ok(Rows { sizes, picked })
     }
 
     // those of one member, among the numbers of the domain
@@ -52,24 +44,17 @@ impl<C: Choices> Marked<'_, C> {
             ≡ count_below bound (picks_in (parts_of C.choices self.now) member)) }
         ensures picked { IfOk result (λ row. ArePicked
             (picks_in (parts_of C.choices self.now) member) bound row.picked) }
-        ensures ranks { IfOk result (λ row. AreRanks (picks_in (parts_of C.choices self.now) member)
-            bound row.ranks) }
     {
+        let given = self.given(alloc, member)?;
         let mut size = 0u32;
         let mut picked = List::new(alloc);
-        let mut ranks = List::new(alloc);
         for number in 0..bound {
-            ranks.push(size)?;
-            if self.picks(member, number) {
+            if self.picks(member, number, given.as_slice()) {
                 picked.push(number)?;
                 size += 1;
             }
         }
-        Ok(Row {
-            size,
-            picked,
-            ranks,
-        })
+        Ok(Row { size, picked })
     }
 }
 
@@ -78,5 +63,23 @@ impl<C: Choices> Marked<'_, C> {
 struct Row {
     size: u32,
     picked: List<u32>,
-    ranks: List<u32>,
+}
+
+/// How many picked numbers are smaller than a number.
+pub(crate) fn rank_of(picked: &[u32], number: u32) -> u32
+    requires few { length picked.now < 2 ^ 32 }
+    ensures { (test : ℕ → Bool) (bound : ℕ) → ArePicked test bound picked.now → number ≤ bound
+        → result ≡ count_below number test }
+{
+    let mut low = 0usize;
+    let mut high = picked.len();
+    while low < high {
+        let middle = low + (high - low) / 2;
+        if picked[middle] < number {
+            low = middle + 1;
+        } else {
+            high = middle;
+        }
+    }
+    low as u32
 }

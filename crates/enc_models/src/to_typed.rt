@@ -1,18 +1,18 @@
 ghost use Rattle.std.specs.Prelude.{◌≡◌, ◌≤◌, ◌<◌, ◌^◌, IfOk, IfErr};
-ghost use Rattle.tf_core.specs.declared.signature.Symbol.{Symbol};
 ghost use Rattle.tf_core.specs.Sound.{IsSoundNormal};
 ghost use Rattle.tf_core.specs.Structures.{IsStructure};
 ghost use Rattle.tf_core.specs.Typing.{IsSignature};
 ghost use Rattle.tf_models.specs.Reading.{tables};
 ghost use Rattle.enc_base.specs.Counts.{most_entries};
 ghost use Rattle.fof_models.specs.Models.{AreModel};
+ghost use Rattle.enc_marks.specs.declared.choices.Binding.TheVariants.{ByTag};
 ghost use Rattle.enc_marks.specs.declared.choices.Elements.TheVariants.{Image};
 ghost use Rattle.enc_marks.specs.declared.choices.Marking.TheVariants.{ByType};
-ghost use Rattle.enc_marks.specs.Choices.{all_types};
 ghost use Rattle.enc_marks.specs.Encoded as encoding;
 ghost use Rattle.enc_models.specs.Calls.Lifting.{parts_of, typed_in, mark_count, IsCounted, IsMarked};
 ghost use Rattle.enc_models.specs.LiftedTables.{lifted_structure, lifted_tables, lifted_entries, IsLiftRefused};
 
+use crate::kept::kept_of_symbols;
 use crate::lifting::Lifting;
 use crate::marked::{Marked, places_of_marks};
 use crate::rows::Rows;
@@ -28,8 +28,8 @@ use tf_models::TypedStructure;
 const MOST_ENTRIES: u64 = 67_108_864;
 
 /// The typed model that an untyped model of a translation gives of the normal problem: for choices
-/// by which all type arguments are written, the guard or tag has the type as an argument, and
-/// numbers are read as they are. Its members are the numbers of the domain.
+/// by which the guard or tag has the type as an argument. Its members are the numbers of the
+/// domain.
 ///
 /// Refused where the tables would hold more than 67,108,864 numbers. They are counted first, and
 /// no table is made for a model that is refused.
@@ -41,8 +41,8 @@ pub fn lift<C: Choices>(
     model: &Structure,
 ) -> Result<TypedStructure, Refusal>
     requires by_type { (C.choices choices.now).marking ≡ ByType }
-    requires kept { (symbol : Symbol) → (C.choices choices.now).keeps symbol ≡ all_types symbol }
-    requires as_they_are { (C.choices choices.now).elements ≡ Image → ⊥ }
+    requires tagged { (C.choices choices.now).elements ≡ Image
+        → (C.choices choices.now).binding ≡ ByTag }
     requires sound { IsSoundNormal normal.now }
     requires encoded { encoded.now ≡ encoding.encoded (C.choices choices.now) normal.now }
     requires model { AreModel encoded.now.problem model.now }
@@ -77,8 +77,8 @@ fn lifted_or_count<C: Choices>(
     model: &Structure,
 ) -> Result<Lifted, NoMemory>
     requires by_type { (C.choices choices.now).marking ≡ ByType }
-    requires kept { (symbol : Symbol) → (C.choices choices.now).keeps symbol ≡ all_types symbol }
-    requires as_they_are { (C.choices choices.now).elements ≡ Image → ⊥ }
+    requires tagged { (C.choices choices.now).elements ≡ Image
+        → (C.choices choices.now).binding ≡ ByTag }
     requires typed { IsSignature normal.now.signature }
     requires few { mark_count normal.now < 2 ^ 32 }
     requires encoded { encoded.now ≡ encoding.encoded (C.choices choices.now) normal.now }
@@ -89,11 +89,14 @@ fn lifted_or_count<C: Choices>(
         (lifted_structure (C.choices choices.now) normal.now model.now)) }
 {
     let places = places_of_marks(alloc, choices, normal, encoded.marks.as_slice())?;
+    let symbols = normal.signature.symbols.as_slice();
+    let kept = kept_of_symbols(alloc, choices.keeps(), symbols)?;
     let marked = Marked {
         choices,
         normal,
         model,
         places: places.as_slice(),
+        kept: kept.as_slice(),
     };
     tables_or_count(alloc, &marked)
 }
@@ -106,15 +109,10 @@ fn tables_or_count<C: Choices>(alloc: Global, marked: &Marked<'_, C>) -> Result<
     ensures { IfOk result (IsCounted marked.now.normal.now.signature
         (typed_in (parts_of C.choices marked.now))) }
 {
-    let Rows {
-        sizes,
-        picked,
-        ranks,
-    } = marked.rows(alloc, marked.model.size)?;
+    let Rows { sizes, picked } = marked.rows(alloc, marked.model.size)?;
     let lifting = Lifting {
         marked,
         picked: picked.as_slice(),
-        ranks: ranks.as_slice(),
     };
     let signature = &marked.normal.signature;
     let entries = typed_entries(alloc, signature, sizes.as_slice(), &lifting)?;

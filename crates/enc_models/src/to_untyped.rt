@@ -8,12 +8,12 @@ ghost use Rattle.tf_stamp.specs.Merged.{merged_size};
 ghost use Rattle.enc_base.specs.Counts.{most_entries};
 ghost use Rattle.enc_marks.specs.declared.choices.Domain.TheVariants.{Merged};
 ghost use Rattle.enc_marks.specs.declared.choices.Marking.TheVariants.{ByType};
-ghost use Rattle.enc_marks.specs.Choices.{all_types};
 ghost use Rattle.enc_marks.specs.Encoded as encoding;
 ghost use Rattle.enc_models.specs.Lowered.{lowered, lowered_entries, IsRefused};
 
 use crate::blocks::blocks_of_marks;
 use crate::merging::Merging;
+use crate::sources::sources_of_symbols;
 use enc_base::NoMemory;
 use enc_marks::{Choices, Encoded, Refusal};
 use fof_models::Structure;
@@ -27,8 +27,9 @@ use tf_stamp::{StampError, Stamped, count_numbers};
 const MOST_ENTRIES: u64 = 67_108_864;
 
 /// The untyped model that a typed model of a normal problem gives of its translation, over the
-/// merged domain: for choices by which all type arguments are written, and the guard or tag has the
-/// type as an argument.
+/// merged domain: for choices by which the guard or tag has the type as an argument, and that say
+/// of each type argument whether it is written. The member for one that isn't is read from the
+/// argument at its parameter's cover.
 ///
 /// Refused where the tables would hold more than 67,108,864 numbers. They are counted first, and
 /// nothing is made for a model that is refused.
@@ -41,7 +42,8 @@ pub fn lower<C: Choices>(
 ) -> Result<Structure, Refusal>
     requires merged { (C.choices choices.now).domain ≡ Merged }
     requires by_type { (C.choices choices.now).marking ≡ ByType }
-    requires kept { (symbol : Symbol) → (C.choices choices.now).keeps symbol ≡ all_types symbol }
+    requires each_kept { (symbol : Symbol) → length ((C.choices choices.now).keeps symbol)
+        ≡ symbol.parameters }
     requires sound { IsSoundNormal normal.now }
     requires encoded { encoded.now ≡ encoding.encoded (C.choices choices.now) normal.now }
     requires model { AreNormalModel normal.now (tables model.now) }
@@ -75,7 +77,8 @@ pub(crate) fn lowered_tables<C: Choices>(
 ) -> Result<Structure, NoMemory>
     requires merged { (C.choices choices.now).domain ≡ Merged }
     requires by_type { (C.choices choices.now).marking ≡ ByType }
-    requires kept { (symbol : Symbol) → (C.choices choices.now).keeps symbol ≡ all_types symbol }
+    requires each_kept { (symbol : Symbol) → length ((C.choices choices.now).keeps symbol)
+        ≡ symbol.parameters }
     requires ready { IsReady normal.now.signature model.now }
     requires encoded { encoded.now ≡ encoding.encoded (C.choices choices.now) normal.now }
     requires few { length normal.now.signature.symbols + length normal.now.signature.constructors
@@ -85,6 +88,8 @@ pub(crate) fn lowered_tables<C: Choices>(
     ensures { IfOk result (λ s. s ≡ lowered (C.choices choices.now) normal.now (tables model.now)) }
 {
     let stamped = stamped_within(alloc, model)?;
+    let symbols = normal.signature.symbols.as_slice();
+    let sources = sources_of_symbols(alloc, choices.keeps(), symbols)?;
     let marks = encoded.marks.as_slice();
     let blocks = blocks_of_marks(alloc, &normal.signature, model, marks)?;
     let merging = Merging {
@@ -93,6 +98,7 @@ pub(crate) fn lowered_tables<C: Choices>(
         encoded,
         model,
         stamped: &stamped,
+        sources: sources.as_slice(),
         blocks: blocks.as_slice(),
     };
     tabulate(alloc, encoded.problem.signature.as_slice(), &merging)

@@ -1,6 +1,7 @@
 -- Words of private contracts: what the values of a lifted structure rest on.
-use Rattle.std.specs.Prelude.{ℕ, ◌+◌, ◌^◌, ◌<◌, ◌≤◌, ◌≡◌, ◌++◌, Bool, List, [], map, length}
-use Rattle.std.specs.Prelude.{replicate, cond, get_or, slice_index, Option, Some, None}
+use Rattle.std.specs.Prelude.{ℕ, ◌+◌, ◌^◌, ◌<◌, ◌≤◌, ◌≡◌, ◌++◌, ◌||◌, Bool, false, List, [], map}
+use Rattle.std.specs.Prelude.{length, replicate, cond, eqb, get_or, slice_index, Option, Some, None}
+use Rattle.enc_base.specs.Quantifiers.{some_below}
 use Rattle.tf_core.specs.declared.signature.Symbol.{Symbol}
 use Rattle.tf_core.specs.declared.normal.Normal.{Normal}
 use Rattle.tf_core.specs.declared.signature.Signature.{Signature}
@@ -15,16 +16,20 @@ use Rattle.fof_models.specs.Structures.{Untyped, table_of, IsWellFormed}
 use Rattle.enc_marks.specs.declared.mark.Mark.{Mark}
 use Rattle.enc_marks.specs.declared.mark.Mark.TheVariants as mark
 use Rattle.enc_marks.specs.declared.choices.Marking.TheVariants.{ByType}
+use Rattle.enc_marks.specs.declared.choices.Binding.TheVariants.{ByTag}
 use Rattle.enc_marks.specs.declared.choices.Elements.TheVariants.{Image}
-use Rattle.enc_marks.specs.Choices.{Choices, all_types}
+use Rattle.enc_marks.specs.Choices.{Choices}
 use Rattle.enc_marks.specs.Encoded.{all_numbers, is_present, translation, encoded}
 use Rattle.enc_marks.specs.Occurrence.{count_below}
+use Rattle.enc_marks.specs.Translation.{selected}
 use Rattle.enc_laws.specs.Lifted.{Lift, numbers_of, is_element, type_mark, lift_by_type, lifted}
+use Rattle.enc_laws.specs.MergedStructure.{kept_count}
 use Rattle.enc_laws.specs.Ranks.{nth}
 use Rattle.enc_models.specs.declared.marked.Marked.{Marked}
 use Rattle.enc_models.specs.declared.to_typed.Lifted.{Lifted}
 use Rattle.enc_models.specs.declared.to_typed.Lifted.TheVariants as made
 use Rattle.enc_models.specs.LiftedTables.{marked_structure}
+use Rattle.enc_models.specs.Calls.Sources.{AreKeptTypes}
 
 -- ---- the marked symbols, by their numbers
 
@@ -64,6 +69,7 @@ pub record Parts : Type 0 where
   pub normal : Normal
   pub model : Structure
   pub places : List (Option ℕ)
+  pub kept : List (List Bool)
 
 abbrev pub parts_of : {A : Type 0} → (A → Choices) → Marked A → Parts
 parts_of choices m = record {
@@ -71,6 +77,7 @@ parts_of choices m = record {
   normal = m.normal.now;
   model = m.model.now;
   places = m.places.now;
+  kept = m.kept.now;
 }
 
 abbrev pub marked_in : Parts → Untyped
@@ -87,13 +94,15 @@ typed_in m =
     lifted m.choices (all_numbers m.normal) m.normal.signature (occurs_in m.choices m.normal)
     (marked_in m) (lift_in m)
 
--- The tables are those of the translation's signature, and each marked symbol is found.
+-- The tables are those of the translation's signature, each marked symbol is found, and the type
+-- arguments are known that the choices keep.
 pub record IsMarked (m : Parts) : Type 0 where
   pub signature : IsSignature m.normal.signature
   pub few : mark_count m.normal < 2 ^ 32
   pub by_type : m.choices.marking ≡ ByType
-  pub kept : (symbol : Symbol) → m.choices.keeps symbol ≡ all_types symbol
-  pub as_they_are : m.choices.elements ≡ Image → ⊥
+  pub kept_types : AreKeptTypes m.choices
+  pub kept_are : m.kept ≡ map m.choices.keeps m.normal.signature.symbols
+  pub tagged : m.choices.elements ≡ Image → m.choices.binding ≡ ByTag
   pub well_formed : IsWellFormed (encoded m.choices m.normal).problem.signature m.model
   pub places : ArePlaces (occurs_in m.choices m.normal) (mark_count m.normal) m.places
 
@@ -113,32 +122,45 @@ pub record ArePicked (test : ℕ → Bool) (bound : ℕ) (picked : List ℕ) : T
   pub each : (rank : ℕ) → rank < count_below bound test →
       slice_index picked rank ≡ nth bound test rank
 
--- the rank of each number below a bound: how many smaller ones pass
-pub record AreRanks (test : ℕ → Bool) (bound : ℕ) (ranks : List ℕ) : Type 0 where
-  pub length_is : length ranks ≡ bound
-  pub each : (number : ℕ) → number < bound → slice_index ranks number ≡ count_below number test
-
 -- those of so many members
-pub record AreRows (m : Parts) (count : ℕ) (picked ranks : List (List ℕ)) : Type 0 where
+pub record AreRows (m : Parts) (count : ℕ) (picked : List (List ℕ)) : Type 0 where
   pub picked_count : length picked ≡ count
-  pub ranks_count : length ranks ≡ count
   pub each_picked : (member : ℕ) → member < count →
       ArePicked (picks_in m member) m.model.size (get_or picked member [])
-  pub each_ranks : (member : ℕ) → member < count →
-      AreRanks (picks_in m member) m.model.size (get_or ranks member [])
+
+-- what a list says of each number, and a test
+pub record AreNoted (test : ℕ → Bool) (before after : List Bool) : Type 0 where
+  pub count : length after ≡ length before
+  pub at : (v : ℕ) → v < length before → get_or after v false ≡ (get_or before v false || test v)
+
+-- whether a mark gives a number for some number of the domain
+abbrev pub gives_below : (ℕ → ℕ) → ℕ → ℕ → Bool
+gives_below mark size v = some_below size (λ x. eqb (mark x) v)
+
+-- the same of each number
+pub record AreGiven (mark : ℕ → ℕ) (size : ℕ) (given : List Bool) : Type 0 where
+  pub length_is : length given ≡ size
+  pub each : (v : ℕ) → v < size → get_or given v false ≡ gives_below mark size v
+
+-- where the elements of members are what the tag gives
+abbrev pub AreGivenIn : Parts → ℕ → List Bool → Type 0
+AreGivenIn m member given =
+    m.choices.elements ≡ Image → AreGiven (mark_in m member) m.model.size given
 
 -- ---- the lifted structure
 
--- members for a symbol's parameters, and the numbers that elements for its arguments stand for
+-- the members for those of a symbol's parameters that are kept, and the numbers that elements for
+-- its arguments stand for
 abbrev pub numbers_in : Parts → Symbol → List ℕ → List ℕ → List ℕ
 numbers_in m symbol members elements =
-    members
+    selected (m.choices.keeps symbol) members
     ++ numbers_of (lift_in m) m.model.size (map (member_of (typed_in m) members) symbol.arguments)
     elements
 
 -- each is below the size of the domain
 abbrev pub bounds_in : Parts → Symbol → List ℕ
-bounds_in m symbol = replicate (symbol.parameters + length symbol.arguments) m.model.size
+bounds_in m symbol =
+    replicate (kept_count m.choices symbol + length symbol.arguments) m.model.size
 
 -- the entry of the f-th symbol for them
 abbrev pub entry_in : Parts → ℕ → Symbol → List ℕ → List ℕ → ℕ
@@ -146,10 +168,11 @@ entry_in m f symbol members elements =
     (marked_in m).symbol_at f (numbers_in m symbol members elements)
 
 -- what its values rest on
-pub record IsLifting (m : Parts) (picked ranks : List (List ℕ)) : Type 0 where
+pub record IsLifting (m : Parts) (picked : List (List ℕ)) : Type 0 where
   pub marked : IsMarked m
   pub fits : IsStructure m.normal.signature (typed_in m)
-  pub rows : AreRows m m.model.size picked ranks
+  pub domain : m.model.size < 2 ^ 32
+  pub rows : AreRows m m.model.size picked
 
 -- tables are those of a structure, which isn't too large, or its count is given
 abbrev pub IsCounted : Signature → Typed → Lifted → Type 0

@@ -15,12 +15,13 @@ use Rattle.tf_stamp.specs.Merged.{merged_size, member_in}
 use Rattle.enc_marks.specs.declared.mark.Mark.TheVariants as mark
 use Rattle.enc_marks.specs.declared.encoded.Encoded.{Encoded}
 use Rattle.enc_marks.specs.declared.choices.Marking.TheVariants.{ByType}
-use Rattle.enc_marks.specs.Choices.{Choices, all_types}
+use Rattle.enc_marks.specs.Choices.{Choices}
 use Rattle.enc_marks.specs.Encoded.{all_marks, encoded, is_present, translation}
-use Rattle.enc_laws.specs.MergedStructure.{merged}
+use Rattle.enc_laws.specs.MergedStructure.{merged, kept_count}
 use Rattle.enc_laws.specs.Present.{over_present}
 use Rattle.enc_models.specs.declared.blocks.Block.{Block}
 use Rattle.enc_models.specs.declared.merging.Merging.{Merging}
+use Rattle.enc_models.specs.Calls.Sources.{AreKeptTypes, sources}
 use Rattle.enc_models.specs.Calls.Blocks.{AreBlocksOf}
 
 -- what a merged structure is made of
@@ -30,6 +31,7 @@ pub record Parts : Type 0 where
   pub encoded : Encoded
   pub model : TypedStructure
   pub stamped : List ℕ
+  pub sources : List (List ℕ)
   pub blocks : List (List Block)
 
 abbrev pub parts_of : {A : Type 0} → (A → Choices) → Merging A → Parts
@@ -39,6 +41,7 @@ parts_of choices m = record {
   encoded = m.encoded.now;
   model = m.model.now;
   stamped = m.stamped.now;
+  sources = m.sources.now;
   blocks = m.blocks.now;
 }
 
@@ -61,14 +64,17 @@ structure_in m =
     over_present (is_present (translation m.choices m.normal))
     (length (all_marks m.choices m.normal)) (merged_in m)
 
--- The tables are well formed, the problem is that of the choices, and the merged domain and the
--- blocks are those of the tables.
+-- The tables are well formed, the problem is that of the choices, the sources are those of the
+-- symbols, and the merged domain and the blocks are those of the tables.
 pub record IsMerging (m : Parts) : Type 0 where
   pub ready : IsReady (signature_in m) m.model
   pub by_type : m.choices.marking ≡ ByType
-  pub kept : (symbol : Symbol) → m.choices.keeps symbol ≡ all_types symbol
+  pub kept : AreKeptTypes m.choices
+  pub each_kept : (symbol : Symbol) → length (m.choices.keeps symbol) ≡ symbol.parameters
   pub encoded_is : m.encoded ≡ encoded m.choices m.normal
   pub stamped_is : m.stamped ≡ m.model.sizes
+  pub sources_are : m.sources
+      ≡ map (λ symbol. sources (m.choices.keeps symbol) symbol) (signature_in m).symbols
   pub blocks : AreBlocksOf (signature_in m) m.model m.encoded.marks m.blocks
 
 -- so many numbers of the merged domain
@@ -84,11 +90,11 @@ pub record StandsForSymbol (m : Parts) (at f : ℕ) (symbol : Symbol) : Type 0 w
   pub mark_at : slice_get m.encoded.marks at ≡ Some (mark.Symbol f)
   pub symbol_at : slice_get (signature_in m).symbols f ≡ Some symbol
 
--- and there is a number for each of its type arguments and arguments
+-- and there is a number for each of its arguments and of its type arguments that are kept
 pub record IsSymbolFor (m : Parts) (at f : ℕ) (values : List ℕ) : Type 0 where
   pub symbol : Symbol
   pub marked : StandsForSymbol m at f symbol
-  pub below : AreNumbers m (symbol.parameters + length symbol.arguments) values
+  pub below : AreNumbers m (kept_count m.choices symbol + length symbol.arguments) values
 
 -- a constructor of the signature, and a number for each of its arguments
 pub record IsConstructorFor (m : Parts) (c : ℕ) (values : List ℕ) : Type 0 where

@@ -1,8 +1,10 @@
-use Rattle.std.proofs.Common.{IfOk, sym, subst}
+use Rattle.std.proofs.Common.{IfOk, sym, subst, ap, map, ◌∙◌}
 use Rattle.tf_core.specs.Structures.{Typed, IsStructure}
 use Rattle.fof_models.specs.Structures.{IsWellFormed}
 use Rattle.enc_marks.specs.declared.encoded.Encoded.{Encoded}
+use Rattle.enc_marks.specs.Choices.{kept_types}
 use Rattle.enc_models.specs.Calls.Lifting.{IsCounted}
+use Rattle.enc_models.proofs.ParameterSources.{map-same}
 use Rattle.enc_models.proofs.LiftedValues.{lifted_structure-by_type}
 use Rattle.enc_models.proofs.to_typed.lifted_or_count.Goals as goal
 
@@ -12,8 +14,15 @@ tables_or_count-requires-clause-ready g c =
       signature = c.requires.typed;
       few = c.requires.few;
       by_type = c.requires.by_type;
-      kept = c.requires.kept;
-      as_they_are = c.requires.as_they_are;
+      kept_types = (c.keeps.result, c.keeps.ensures);
+      kept_are = c.as_slice-3.ensures
+          ∙ c.in_ok-kept.ensures
+          ∙ ap (map (kept_types c.keeps.result)) c.as_slice-symbols.ensures
+          ∙ map-same (kept_types c.keeps.result)
+          (g.C.Choices.choices c.args.choices.now).keeps
+          c.args.normal.now.signature.symbols
+          (λ symbol. sym (c.keeps.ensures symbol));
+      tagged = c.requires.tagged;
       well_formed =
           subst (λ (e : Encoded). IsWellFormed e.problem.signature c.args.model.now)
           c.requires.encoded c.requires.model.well_formed;

@@ -25,7 +25,7 @@ pub tabulate-requires-clause-few : goal.tabulate-requires-clause-few
 tabulate-requires-clause-few g c =
     omega (
       arith,
-      ap length (c.as_slice-2.ensures ∙ ap (λ (e : Encoded). e.problem.signature) c.requires.encoded),
+      ap length (c.as_slice-3.ensures ∙ ap (λ (e : Encoded). e.problem.signature) c.requires.encoded),
       few_symbols (g.C.Choices.choices c.args.choices.now) c.args.normal.now c.requires.by_type,
       c.requires.few,
     )

@@ -1,73 +1,132 @@
-use Rattle.std.proofs.Common.{arith, ap, ◌∙◌, ◌≡◌, ◌+◌, length, get_or, take}
+use Rattle.std.proofs.Common.{arith, ap, sym, ◌∙◌, ◌≡◌, ◌+◌, Bool, false, length, get_or, take, count_by}
+use Rattle.std.proofs.lemmas.List.{take_all}
+use Rattle.std.proofs.lemmas.List.Sums.{count_by_more_yes, count_by_more_no}
 use Rattle.enc_base.specs.Tables.{place}
 use Rattle.tf_core.specs.Structures.{member_of}
+use Rattle.enc_laws.specs.MergedStructure.{kept_count}
 use Rattle.enc_models.specs.Calls.Lifting.{parts_of, typed_in, numbers_in, bounds_in}
 use Rattle.enc_models.proofs.PickedNumbers.{picked_row}
-use Rattle.enc_models.proofs.LiftedValues.{fold-step, fold-fits, fold-placed, each_member, each_number, as_many_members, as_many_elements, argument_typed, argument_member, argument_element, number_of_member, number_of_element}
+use Rattle.enc_models.proofs.LiftedValues.{fold-step, fold-fits, fold-placed, each_number, as_many_elements, each_member, argument_typed, argument_member, argument_element, kept_within, kept_place, number_of_member, number_of_element}
 use Rattle.enc_models.proofs.lifting.Lifting.place_of_arguments.Goals as goal
+use Rattle.enc_models.proofs.lifting.Lifting.place_of_arguments.Goals.{then-is_kept, else-is_kept}
+
+pub bounds-members-parameter : goal.bounds-members-parameter
+bounds-members-parameter g c =
+    let m = (parts_of g.C.Choices.choices c.args.self.now.marked.now) in
+    let symbol = c.args.symbol.now in
+    kept_within m c.requires.ready.marked c.requires.ready.fits symbol c.requires.typed c.args.members.now
+    c.args.elements.now c.requires.arguments
+    c.loop-parameter.parameter (rw c.requires.kept at c.loop-parameter-test.true)
+
+pub offset_bounds-members-parameter : goal.offset_bounds-members-parameter
+offset_bounds-members-parameter g c =
+    let m = (parts_of g.C.Choices.choices c.args.self.now.marked.now) in
+    let symbol = c.args.symbol.now in
+    omega (
+      arith,
+      kept_within m c.requires.ready.marked c.requires.ready.fits symbol c.requires.typed c.args.members.now
+          c.args.elements.now c.requires.arguments
+          c.loop-parameter.parameter (rw c.requires.kept at c.loop-parameter-test.true),
+    )
 
 pub overflow_mul-at : goal.overflow_mul-at
 overflow_mul-at g c =
     let m = (parts_of g.C.Choices.choices c.args.self.now.marked.now) in
     let symbol = c.args.symbol.now in
+    let within = rw c.requires.kept at c.loop-parameter-test.true in
+    let kept = rw c.requires.kept at c.if-is_kept.true in
+    let so_far = rw c.requires.kept at c.loop-parameter.invariant in
     omega (
       arith,
       c.requires.entries,
-      fold-fits (symbol.parameters + length symbol.arguments) m.model.size
+      fold-fits (kept_count m.choices symbol + length symbol.arguments) m.model.size
           (numbers_in m symbol c.args.members.now c.args.elements.now)
           (each_number m c.requires.ready.marked c.requires.ready.fits symbol c.requires.typed c.args.members.now
-          c.args.elements.now c.requires.arguments) c.loop-member.member-index c.loop-member.at
-          (get_or c.args.members.now c.loop-member.member-index 0)
-          (omega (arith, c.loop-member-test.true, as_many_members m c.requires.ready.marked c.requires.ready.fits symbol c.requires.typed c.args.members.now c.args.elements.now c.requires.arguments))
+          c.args.elements.now c.requires.arguments)
+          (count_by (λ (k : Bool). k) (take c.loop-parameter.parameter (m.choices.keeps symbol)))
+          c.loop-parameter.at (get_or c.args.members.now c.loop-parameter.parameter 0)
+          (kept_place m c.requires.ready.marked c.requires.ready.fits symbol c.requires.typed c.args.members.now
+          c.args.elements.now c.requires.arguments
+          c.loop-parameter.parameter within kept)
           (number_of_member m c.requires.ready.marked c.requires.ready.fits symbol c.requires.typed c.args.members.now
-          c.args.elements.now c.requires.arguments c.loop-member.member-index c.loop-member-test.true)
-          c.loop-member.invariant,
+          c.args.elements.now c.requires.arguments
+          c.loop-parameter.parameter within kept)
+          so_far,
     )
 
 pub overflow_add-at : goal.overflow_add-at
 overflow_add-at g c =
     let m = (parts_of g.C.Choices.choices c.args.self.now.marked.now) in
     let symbol = c.args.symbol.now in
+    let within = rw c.requires.kept at c.loop-parameter-test.true in
+    let kept = rw c.requires.kept at c.if-is_kept.true in
+    let so_far = rw c.requires.kept at c.loop-parameter.invariant in
     omega (
       arith,
       c.requires.entries,
-      fold-fits (symbol.parameters + length symbol.arguments) m.model.size
+      fold-fits (kept_count m.choices symbol + length symbol.arguments) m.model.size
           (numbers_in m symbol c.args.members.now c.args.elements.now)
           (each_number m c.requires.ready.marked c.requires.ready.fits symbol c.requires.typed c.args.members.now
-          c.args.elements.now c.requires.arguments) c.loop-member.member-index c.loop-member.at
-          (get_or c.args.members.now c.loop-member.member-index 0)
-          (omega (arith, c.loop-member-test.true, as_many_members m c.requires.ready.marked c.requires.ready.fits symbol c.requires.typed c.args.members.now c.args.elements.now c.requires.arguments))
+          c.args.elements.now c.requires.arguments)
+          (count_by (λ (k : Bool). k) (take c.loop-parameter.parameter (m.choices.keeps symbol)))
+          c.loop-parameter.at (get_or c.args.members.now c.loop-parameter.parameter 0)
+          (kept_place m c.requires.ready.marked c.requires.ready.fits symbol c.requires.typed c.args.members.now
+          c.args.elements.now c.requires.arguments
+          c.loop-parameter.parameter within kept)
           (number_of_member m c.requires.ready.marked c.requires.ready.fits symbol c.requires.typed c.args.members.now
-          c.args.elements.now c.requires.arguments c.loop-member.member-index c.loop-member-test.true)
-          c.loop-member.invariant,
+          c.args.elements.now c.requires.arguments
+          c.loop-parameter.parameter within kept)
+          so_far,
     )
 
-pub loop-member-preserved : goal.loop-member-preserved
-loop-member-preserved g c =
+pub loop-parameter-preserved : goal.loop-parameter-preserved
+loop-parameter-preserved g c =
     let m = (parts_of g.C.Choices.choices c.args.self.now.marked.now) in
     let symbol = c.args.symbol.now in
-    fold-step (symbol.parameters + length symbol.arguments) m.model.size
-    (numbers_in m symbol c.args.members.now c.args.elements.now)
-    (each_number m c.requires.ready.marked c.requires.ready.fits symbol c.requires.typed c.args.members.now
-    c.args.elements.now c.requires.arguments) c.loop-member.member-index c.loop-member.at
-    (get_or c.args.members.now c.loop-member.member-index 0)
-    (omega (arith, c.loop-member-test.true, as_many_members m c.requires.ready.marked c.requires.ready.fits symbol c.requires.typed c.args.members.now c.args.elements.now c.requires.arguments))
-    (number_of_member m c.requires.ready.marked c.requires.ready.fits symbol c.requires.typed c.args.members.now
-    c.args.elements.now c.requires.arguments c.loop-member.member-index c.loop-member-test.true)
-    c.loop-member.invariant
+    let keeps = m.choices.keeps symbol in
+    let i = c.loop-parameter.parameter in
+    let within = rw c.requires.kept at c.loop-parameter-test.true in
+    let so_far = rw c.requires.kept at c.loop-parameter.invariant in
+    rw c.requires.kept
+    (elim c.if-is_kept.branch [
+      | then-is_kept w ↦
+          let kept = rw c.requires.kept at w.if-is_kept.true in
+          w.at-is
+          ∙ fold-step (kept_count m.choices symbol + length symbol.arguments) m.model.size
+          (numbers_in m symbol c.args.members.now c.args.elements.now)
+          (each_number m c.requires.ready.marked c.requires.ready.fits symbol c.requires.typed c.args.members.now
+          c.args.elements.now c.requires.arguments)
+          (count_by (λ (k : Bool). k) (take i keeps)) c.loop-parameter.at
+          (get_or c.args.members.now i 0)
+          (kept_place m c.requires.ready.marked c.requires.ready.fits symbol c.requires.typed c.args.members.now
+          c.args.elements.now c.requires.arguments i within kept)
+          (number_of_member m c.requires.ready.marked c.requires.ready.fits symbol c.requires.typed c.args.members.now
+          c.args.elements.now c.requires.arguments i within kept)
+          so_far
+          ∙ ap
+          (λ n. place (take n (bounds_in m symbol))
+          (take n (numbers_in m symbol c.args.members.now c.args.elements.now)))
+          (sym (count_by_more_yes (λ (k : Bool). k) keeps i false within kept))
+      | else-is_kept w ↦
+          let dropped = rw c.requires.kept at w.if-is_kept.false in
+          w.at-is
+          ∙ so_far
+          ∙ ap
+          (λ n. place (take n (bounds_in m symbol))
+          (take n (numbers_in m symbol c.args.members.now c.args.elements.now)))
+          (sym (count_by_more_no (λ (k : Bool). k) keeps i false within dropped))
+    ])
 
 pub loop-i-init : goal.loop-i-init
 loop-i-init g c =
     let m = (parts_of g.C.Choices.choices c.args.self.now.marked.now) in
     let symbol = c.args.symbol.now in
-    let all : c.loop-member.member-index ≡ symbol.parameters + 0 =
-    omega (
-      arith,
-      c.loop-member-test.false,
-      c.loop-member.auto.member-index-end,
-      as_many_members m c.requires.ready.marked c.requires.ready.fits symbol c.requires.typed c.args.members.now c.args.elements.now c.requires.arguments,
-    ) in
-    c.loop-member.invariant
+    let all : count_by (λ (k : Bool). k) (take c.loop-parameter.parameter c.args.kept.now)
+    ≡ count_by (λ (k : Bool). k) c.args.kept.now + 0 =
+    (let whole = ap (count_by (λ (k : Bool). k))
+    (take_all c.loop-parameter.parameter c.args.kept.now (omega (arith, c.loop-parameter-test.false))) in
+    omega (arith, whole)) in
+    c.loop-parameter.invariant
     ∙ ap
     (λ n. place (take n (bounds_in m symbol))
     (take n (numbers_in m symbol c.args.members.now c.args.elements.now))) all
@@ -119,7 +178,7 @@ bounds-as_slice-elements g c =
     let symbol = c.args.symbol.now in
     let within = rw c.as_slice-ty-items.ensures at c.loop-i-test.true in
     let is = rw c.as_slice-ty-items.ensures at c.ty-item.is in
-    let row = picked_row m m.model.size c.args.self.now.picked.now c.args.self.now.ranks.now
+    let row = picked_row m m.model.size c.args.self.now.picked.now
     c.requires.ready.rows (member_of (typed_in m) c.args.members.now c.ty-item.result)
     (argument_member m c.requires.ready.marked c.requires.ready.fits symbol c.requires.typed c.args.members.now
     c.args.elements.now c.requires.arguments c.loop-i.i c.ty-item.result within is)
@@ -139,7 +198,7 @@ overflow_mul-at-in-loop-i g c =
     let symbol = c.args.symbol.now in
     let within = rw c.as_slice-ty-items.ensures at c.loop-i-test.true in
     let is = rw c.as_slice-ty-items.ensures at c.ty-item.is in
-    let row = picked_row m m.model.size c.args.self.now.picked.now c.args.self.now.ranks.now
+    let row = picked_row m m.model.size c.args.self.now.picked.now
     c.requires.ready.rows (member_of (typed_in m) c.args.members.now c.ty-item.result)
     (argument_member m c.requires.ready.marked c.requires.ready.fits symbol c.requires.typed c.args.members.now
     c.args.elements.now c.requires.arguments c.loop-i.i c.ty-item.result within is)
@@ -149,10 +208,10 @@ overflow_mul-at-in-loop-i g c =
     omega (
       arith,
       c.requires.entries,
-      fold-fits (symbol.parameters + length symbol.arguments) m.model.size
+      fold-fits (kept_count m.choices symbol + length symbol.arguments) m.model.size
           (numbers_in m symbol c.args.members.now c.args.elements.now)
           (each_number m c.requires.ready.marked c.requires.ready.fits symbol c.requires.typed c.args.members.now
-          c.args.elements.now c.requires.arguments) (symbol.parameters + c.loop-i.i) c.loop-i.at
+          c.args.elements.now c.requires.arguments) (kept_count m.choices symbol + c.loop-i.i) c.loop-i.at
           (get_or c.as_slice.result.now (get_or c.args.elements.now c.loop-i.i 0) 0)
           (omega (arith, within))
           (row.each (get_or c.args.elements.now c.loop-i.i 0)
@@ -160,7 +219,7 @@ overflow_mul-at-in-loop-i g c =
           c.args.elements.now c.requires.arguments c.loop-i.i c.ty-item.result within is)
           ∙ number_of_element m c.requires.ready.marked c.requires.ready.fits symbol c.requires.typed c.args.members.now
           c.args.elements.now c.requires.arguments c.loop-i.i c.ty-item.result within is)
-          c.loop-i.invariant,
+          (rw c.requires.kept at c.loop-i.invariant),
     )
 
 pub overflow_add-at-in-loop-i : goal.overflow_add-at-in-loop-i
@@ -169,7 +228,7 @@ overflow_add-at-in-loop-i g c =
     let symbol = c.args.symbol.now in
     let within = rw c.as_slice-ty-items.ensures at c.loop-i-test.true in
     let is = rw c.as_slice-ty-items.ensures at c.ty-item.is in
-    let row = picked_row m m.model.size c.args.self.now.picked.now c.args.self.now.ranks.now
+    let row = picked_row m m.model.size c.args.self.now.picked.now
     c.requires.ready.rows (member_of (typed_in m) c.args.members.now c.ty-item.result)
     (argument_member m c.requires.ready.marked c.requires.ready.fits symbol c.requires.typed c.args.members.now
     c.args.elements.now c.requires.arguments c.loop-i.i c.ty-item.result within is)
@@ -179,10 +238,10 @@ overflow_add-at-in-loop-i g c =
     omega (
       arith,
       c.requires.entries,
-      fold-fits (symbol.parameters + length symbol.arguments) m.model.size
+      fold-fits (kept_count m.choices symbol + length symbol.arguments) m.model.size
           (numbers_in m symbol c.args.members.now c.args.elements.now)
           (each_number m c.requires.ready.marked c.requires.ready.fits symbol c.requires.typed c.args.members.now
-          c.args.elements.now c.requires.arguments) (symbol.parameters + c.loop-i.i) c.loop-i.at
+          c.args.elements.now c.requires.arguments) (kept_count m.choices symbol + c.loop-i.i) c.loop-i.at
           (get_or c.as_slice.result.now (get_or c.args.elements.now c.loop-i.i 0) 0)
           (omega (arith, within))
           (row.each (get_or c.args.elements.now c.loop-i.i 0)
@@ -190,7 +249,7 @@ overflow_add-at-in-loop-i g c =
           c.args.elements.now c.requires.arguments c.loop-i.i c.ty-item.result within is)
           ∙ number_of_element m c.requires.ready.marked c.requires.ready.fits symbol c.requires.typed c.args.members.now
           c.args.elements.now c.requires.arguments c.loop-i.i c.ty-item.result within is)
-          c.loop-i.invariant,
+          (rw c.requires.kept at c.loop-i.invariant),
     )
 
 pub loop-i-preserved : goal.loop-i-preserved
@@ -199,18 +258,19 @@ loop-i-preserved g c =
     let symbol = c.args.symbol.now in
     let within = rw c.as_slice-ty-items.ensures at c.loop-i-test.true in
     let is = rw c.as_slice-ty-items.ensures at c.ty-item.is in
-    let row = picked_row m m.model.size c.args.self.now.picked.now c.args.self.now.ranks.now
+    let row = picked_row m m.model.size c.args.self.now.picked.now
     c.requires.ready.rows (member_of (typed_in m) c.args.members.now c.ty-item.result)
     (argument_member m c.requires.ready.marked c.requires.ready.fits symbol c.requires.typed c.args.members.now
     c.args.elements.now c.requires.arguments c.loop-i.i c.ty-item.result within is)
     c.as_slice.result.now _
     (c.as_slice.ensures ∙ ap (λ k. get_or c.args.self.now.picked.now k c.index-self-member.result)
     c.member_of-member.ensures) in
-    let next : symbol.parameters + c.loop-i.i + 1 ≡ symbol.parameters + (c.loop-i.i + 1) = omega arith in
-    fold-step (symbol.parameters + length symbol.arguments) m.model.size
+    let next : kept_count m.choices symbol + c.loop-i.i + 1 ≡ kept_count m.choices symbol + (c.loop-i.i + 1) = omega arith in
+    rw c.requires.kept
+    (fold-step (kept_count m.choices symbol + length symbol.arguments) m.model.size
     (numbers_in m symbol c.args.members.now c.args.elements.now)
     (each_number m c.requires.ready.marked c.requires.ready.fits symbol c.requires.typed c.args.members.now
-    c.args.elements.now c.requires.arguments) (symbol.parameters + c.loop-i.i) c.loop-i.at
+    c.args.elements.now c.requires.arguments) (kept_count m.choices symbol + c.loop-i.i) c.loop-i.at
     (get_or c.as_slice.result.now (get_or c.args.elements.now c.loop-i.i 0) 0)
     (omega (arith, within))
     (row.each (get_or c.args.elements.now c.loop-i.i 0)
@@ -218,17 +278,17 @@ loop-i-preserved g c =
     c.args.elements.now c.requires.arguments c.loop-i.i c.ty-item.result within is)
     ∙ number_of_element m c.requires.ready.marked c.requires.ready.fits symbol c.requires.typed c.args.members.now
     c.args.elements.now c.requires.arguments c.loop-i.i c.ty-item.result within is)
-    c.loop-i.invariant
+    (rw c.requires.kept at c.loop-i.invariant)
     ∙ ap
     (λ n. place (take n (bounds_in m symbol))
-    (take n (numbers_in m symbol c.args.members.now c.args.elements.now))) next
+    (take n (numbers_in m symbol c.args.members.now c.args.elements.now))) next)
 
 pub returns : goal.returns
 returns g c =
     let m = (parts_of g.C.Choices.choices c.args.self.now.marked.now) in
     let symbol = c.args.symbol.now in
     let done = rw c.as_slice-ty-items.ensures at c.loop-i-test.false in
-    fold-placed (symbol.parameters + length symbol.arguments) m.model.size
+    fold-placed (kept_count m.choices symbol + length symbol.arguments) m.model.size
     (numbers_in m symbol c.args.members.now c.args.elements.now)
     (each_number m c.requires.ready.marked c.requires.ready.fits symbol c.requires.typed c.args.members.now
-    c.args.elements.now c.requires.arguments) (symbol.parameters + c.loop-i.i) c.loop-i.at (omega (arith, done)) c.loop-i.invariant
+    c.args.elements.now c.requires.arguments) (kept_count m.choices symbol + c.loop-i.i) c.loop-i.at (omega (arith, done)) (rw c.requires.kept at c.loop-i.invariant)

@@ -1,12 +1,11 @@
-use Rattle.std.proofs.Common.{arith, ap, sym, ◌∙◌, ◌≡◌, ◌+◌, subst, length, slice_index, true, false}
+use Rattle.std.proofs.Common.{arith, ap, sym, ◌∙◌, ◌≡◌, ◌+◌, subst, true, false}
 use Rattle.enc_marks.specs.Occurrence.{count_below}
 use Rattle.enc_marks.proofs.Ranks.{count_below-le}
 use Rattle.enc_laws.proofs.MarksFound.{count_below-next}
 use Rattle.enc_models.specs.Calls.Lifting.{parts_of, picks_in}
-use Rattle.enc_models.proofs.KeptBlocks.{length-pushed}
-use Rattle.enc_models.proofs.PickedNumbers.{ArePickedBelow, more_picked, same_picked, more_values}
+use Rattle.enc_models.proofs.PickedNumbers.{ArePickedBelow, more_picked, same_picked}
 use Rattle.enc_models.proofs.marked.Marked.row.Goals as goal
-use Rattle.enc_models.proofs.marked.Marked.row.Goals.{then-picks+in_ok-push-2, else-picks}
+use Rattle.enc_models.proofs.marked.Marked.row.Goals.{then-picks+in_ok-push, else-picks}
 
 pub overflow_add-size : goal.overflow_add-size
 overflow_add-size g c =
@@ -25,7 +24,7 @@ loop-number-preserved g c =
     let so_far = c.loop-number.invariant in
     record {
       size = elim c.if-picks.branch [
-        | then-picks+in_ok-push-2 w ↦
+        | then-picks+in_ok-push w ↦
             omega (
               arith,
               w.size-is,
@@ -41,9 +40,9 @@ loop-number-preserved g c =
             )
       ];
       picked = elim c.if-picks.branch [
-        | then-picks+in_ok-push-2 w ↦
+        | then-picks+in_ok-push w ↦
             subst (ArePickedBelow test c.args.bound (number + 1))
-            (sym (w.picked-is ∙ w.in_ok-push-2.ensures.ok))
+            (sym (w.picked-is ∙ w.in_ok-push.ensures.ok))
             (more_picked test c.args.bound number c.loop-number.picked so_far.picked
             c.loop-number-test.true (sym c.picks.ensures ∙ w.if-picks.true))
         | else-picks w ↦
@@ -51,14 +50,6 @@ loop-number-preserved g c =
             (same_picked test c.args.bound number c.loop-number.picked so_far.picked
             (sym c.picks.ensures ∙ w.if-picks.false))
       ];
-      ranks_count =
-          ap length c.in_ok-push.ensures.ok
-          ∙ length-pushed c.loop-number.ranks c.loop-number.size
-          ∙ ap (λ n. n + 1) so_far.ranks_count;
-      ranks = λ u inside.
-          ap (λ values. slice_index values u) c.in_ok-push.ensures.ok
-          ∙ more_values (λ v. count_below v test) c.loop-number.ranks number c.loop-number.size
-          so_far.ranks_count so_far.ranks so_far.size u inside;
     }
 
 pub returns : goal.returns
@@ -73,9 +64,5 @@ returns g c =
       picked = record {
         length_is = so_far.picked.length_is ∙ counted;
         each = λ rank within. so_far.picked.each rank (omega (arith, within, counted));
-      };
-      ranks = record {
-        length_is = so_far.ranks_count ∙ all;
-        each = λ number within. so_far.ranks number (omega (arith, within, all));
       };
     }

@@ -1,4 +1,4 @@
-use Rattle.std.proofs.Common.{◌≡◌, ◌<◌, ℕ, length, slice_index}
+use Rattle.std.proofs.Common.{◌≡◌}
 use Rattle.enc_marks.specs.Occurrence.{count_below}
 use Rattle.enc_models.specs.Calls.Lifting.{parts_of, picks_in}
 use Rattle.enc_models.proofs.PickedNumbers.{ArePickedBelow}
@@ -7,7 +7,6 @@ use Rattle.enc_models.proofs.marked.Marked.row.Given as goal
 abbrev pub invariant-loop-number : goal.invariant-loop-number
 invariant-loop-number g l = record {
   size : l.size ≡ count_below l.number (picks_in (parts_of g.C.Choices.choices l.self) l.member);
-  picked : ArePickedBelow (picks_in (parts_of g.C.Choices.choices l.self) l.member) l.bound l.number l.picked;
-  ranks_count : length l.ranks ≡ l.number;
-  ranks : (u : ℕ) → u < l.number → slice_index l.ranks u ≡ count_below u (picks_in (parts_of g.C.Choices.choices l.self) l.member);
+  picked : ArePickedBelow (picks_in (parts_of g.C.Choices.choices l.self) l.member) l.bound
+      l.number l.picked;
 }

@@ -21,11 +21,9 @@ loop-member-preserved g c =
           ∙ ap (λ xs. xs ++ sizes member ∷ []) so_far.sizes
           ∙ sym (listed-more member sizes);
       each =
-          rw (c.in_ok-push-2.ensures.ok, c.in_ok-push-3.ensures.ok)
-          (more_rows (parts_of g.C.Choices.choices c.args.self.now) member c.loop-member.picked c.loop-member.ranks
-          c.in_ok-row.row.picked c.in_ok-row.row.ranks so_far.each
-          (rw c.requires.bound at c.in_ok-row.ensures.picked)
-          (rw c.requires.bound at c.in_ok-row.ensures.ranks));
+          rw c.in_ok-push-2.ensures.ok
+          (more_rows (parts_of g.C.Choices.choices c.args.self.now) member c.loop-member.picked c.in_ok-row.row.picked so_far.each
+          (rw c.requires.bound at c.in_ok-row.ensures.picked));
     }
 
 pub returns : goal.returns
@@ -50,6 +48,6 @@ returns g c =
       );
       sizes = whole;
       each =
-          subst (λ n. AreRows (parts_of g.C.Choices.choices c.args.self.now) n c.loop-member.picked c.loop-member.ranks) all
+          subst (λ n. AreRows (parts_of g.C.Choices.choices c.args.self.now) n c.loop-member.picked) all
           c.loop-member.invariant.each;
     }

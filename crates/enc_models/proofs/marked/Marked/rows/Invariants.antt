@@ -7,6 +7,7 @@ use Rattle.enc_models.proofs.marked.Marked.rows.Given as goal
 abbrev pub invariant-loop-member : goal.invariant-loop-member
 invariant-loop-member g l = record {
   sizes : l.sizes
-      ≡ listed l.member 0 (λ m. count_below l.self.model.now.size (picks_in (parts_of g.C.Choices.choices l.self) m));
-  each : AreRows (parts_of g.C.Choices.choices l.self) l.member l.picked l.ranks;
+      ≡ listed l.member 0 (λ m. count_below l.self.model.now.size
+      (picks_in (parts_of g.C.Choices.choices l.self) m));
+  each : AreRows (parts_of g.C.Choices.choices l.self) l.member l.picked;
 }

@@ -1,34 +1,69 @@
-use Rattle.std.proofs.Common.{arith, ap, sym, subst, ◌∙◌, ◌+◌, length, slice_index}
-use Rattle.enc_models.specs.Calls.Merging.{parts_of, AreNumbers}
+use Rattle.std.proofs.Common.{arith, ap, ◌∙◌, ◌+◌, length, slice_index}
+use Rattle.enc_models.specs.Calls.Merging.{parts_of}
 use Rattle.enc_models.proofs.KeptBlocks.{mark_within, are_blocks, block_read}
-use Rattle.enc_models.proofs.Symbols.{symbol_read, values_long, kept_numbers, parameters_fit, number_within, arguments_below, own_numbers, arguments_fit, entry_inside, predicate_is, member_within, entry_below, function_is}
+use Rattle.enc_models.proofs.Symbols.{symbol_read, all_numbers, sources_within, sources_read, sources_below, arguments_within, own_behind, parameters_fit, number_within, arguments_below, own_numbers, arguments_fit, entry_inside, predicate_is, member_within, entry_below, function_is}
 use Rattle.enc_models.proofs.merging.Merging.symbol_value.Goals as goal
 
-pub split_at-requires : goal.split_at-requires
-split_at-requires g c =
+pub bounds-self-f : goal.bounds-self-f
+bounds-self-f g c =
     let given = symbol_read (parts_of g.C.Choices.choices c.args.self.now) c.args.at c.args.f
     c.args.values.now c.requires.symbol c.as_slice.result.now c.index-as_slice-f.result
     c.as_slice.ensures c.index-as_slice-f.is in
-    values_long (parts_of g.C.Choices.choices c.args.self.now) c.requires.ready c.args.at c.args.f
+    sources_within (parts_of g.C.Choices.choices c.args.self.now) c.requires.ready c.args.at c.args.f
     c.index-as_slice-f.result c.args.values.now given
 
-pub place_of_members-number-requires-clause-numbers : goal.place_of_members-number-requires-clause-numbers
-place_of_members-number-requires-clause-numbers g c =
+pub offset_bounds-self-f : goal.offset_bounds-self-f
+offset_bounds-self-f g c =
     let given = symbol_read (parts_of g.C.Choices.choices c.args.self.now) c.args.at c.args.f
     c.args.values.now c.requires.symbol c.as_slice.result.now c.index-as_slice-f.result
     c.as_slice.ensures c.index-as_slice-f.is in
-    subst (λ kept. AreNumbers (parts_of g.C.Choices.choices c.args.self.now) (length kept) kept)
-    (sym c.split_at.ensures.front) (kept_numbers (parts_of g.C.Choices.choices c.args.self.now) c.requires.ready c.args.at c.args.f
+    omega (
+      arith,
+      sources_within (parts_of g.C.Choices.choices c.args.self.now) c.requires.ready c.args.at c.args.f
+          c.index-as_slice-f.result c.args.values.now given,
+    )
+
+pub place_of_sources-number-requires-clause-sources : goal.place_of_sources-number-requires-clause-sources
+place_of_sources-number-requires-clause-sources g c =
+    let given = symbol_read (parts_of g.C.Choices.choices c.args.self.now) c.args.at c.args.f
+    c.args.values.now c.requires.symbol c.as_slice.result.now c.index-as_slice-f.result
+    c.as_slice.ensures c.index-as_slice-f.is in
+    rw (sources_read (parts_of g.C.Choices.choices c.args.self.now) c.requires.ready c.args.at c.args.f
+    c.index-as_slice-f.result c.args.values.now given c.as_slice-sources.result.now
+    c.index-self-f.result c.as_slice-sources.ensures)
+    (sources_below (parts_of g.C.Choices.choices c.args.self.now) c.requires.ready c.args.at c.args.f
     c.index-as_slice-f.result c.args.values.now given)
 
-pub place_of_members-number-requires-clause-entries : goal.place_of_members-number-requires-clause-entries
-place_of_members-number-requires-clause-entries g c =
+pub place_of_sources-number-requires-clause-numbers : goal.place_of_sources-number-requires-clause-numbers
+place_of_sources-number-requires-clause-numbers g c =
     let given = symbol_read (parts_of g.C.Choices.choices c.args.self.now) c.args.at c.args.f
     c.args.values.now c.requires.symbol c.as_slice.result.now c.index-as_slice-f.result
     c.as_slice.ensures c.index-as_slice-f.is in
-    rw (c.split_at.ensures.front, c.symbol_table-table.ensures)
+    all_numbers (parts_of g.C.Choices.choices c.args.self.now) c.requires.ready c.args.at c.args.f
+    c.index-as_slice-f.result c.args.values.now given
+
+pub place_of_sources-number-requires-clause-entries : goal.place_of_sources-number-requires-clause-entries
+place_of_sources-number-requires-clause-entries g c =
+    let given = symbol_read (parts_of g.C.Choices.choices c.args.self.now) c.args.at c.args.f
+    c.args.values.now c.requires.symbol c.as_slice.result.now c.index-as_slice-f.result
+    c.as_slice.ensures c.index-as_slice-f.is in
+    rw (
+      sources_read (parts_of g.C.Choices.choices c.args.self.now) c.requires.ready c.args.at c.args.f
+          c.index-as_slice-f.result c.args.values.now given c.as_slice-sources.result.now
+          c.index-self-f.result c.as_slice-sources.ensures,
+      c.symbol_table-table.ensures,
+    )
     (parameters_fit (parts_of g.C.Choices.choices c.args.self.now) c.requires.ready c.args.at c.args.f
     c.index-as_slice-f.result c.args.values.now given)
+
+pub overflow_sub-values : goal.overflow_sub-values
+overflow_sub-values g c =
+    let given = symbol_read (parts_of g.C.Choices.choices c.args.self.now) c.args.at c.args.f
+    c.args.values.now c.requires.symbol c.as_slice.result.now c.index-as_slice-f.result
+    c.as_slice.ensures c.index-as_slice-f.is in
+    arguments_within (parts_of g.C.Choices.choices c.args.self.now) c.requires.ready c.args.at c.args.f
+    c.index-as_slice-f.result c.args.values.now given c.as_slice-3.result.now
+    c.as_slice-3.ensures
 
 pub bounds-self-at : goal.bounds-self-at
 bounds-self-at g c =
@@ -43,8 +78,10 @@ offset_bounds-as_slice-number g c =
     let given = symbol_read (parts_of g.C.Choices.choices c.args.self.now) c.args.at c.args.f
     c.args.values.now c.requires.symbol c.as_slice.result.now c.index-as_slice-f.result
     c.as_slice.ensures c.index-as_slice-f.is in
-    let placed = rw c.split_at.ensures.front at c.place_of_members-number.ensures.exact in
-    let number = c.place_of_members-number.result in
+    let placed = rw (sources_read (parts_of g.C.Choices.choices c.args.self.now) c.requires.ready c.args.at c.args.f
+    c.index-as_slice-f.result c.args.values.now given c.as_slice-sources.result.now
+    c.index-self-f.result c.as_slice-sources.ensures) at c.place_of_sources-number.ensures.exact in
+    let number = c.place_of_sources-number.result in
     let within = number_within (parts_of g.C.Choices.choices c.args.self.now) c.requires.ready c.args.at c.args.f
     c.index-as_slice-f.result c.args.values.now given number placed in
     omega (
@@ -61,8 +98,10 @@ bounds-as_slice-number g c =
     let given = symbol_read (parts_of g.C.Choices.choices c.args.self.now) c.args.at c.args.f
     c.args.values.now c.requires.symbol c.as_slice.result.now c.index-as_slice-f.result
     c.as_slice.ensures c.index-as_slice-f.is in
-    let placed = rw c.split_at.ensures.front at c.place_of_members-number.ensures.exact in
-    let number = c.place_of_members-number.result in
+    let placed = rw (sources_read (parts_of g.C.Choices.choices c.args.self.now) c.requires.ready c.args.at c.args.f
+    c.index-as_slice-f.result c.args.values.now given c.as_slice-sources.result.now
+    c.index-self-f.result c.as_slice-sources.ensures) at c.place_of_sources-number.ensures.exact in
+    let number = c.place_of_sources-number.result in
     let within = number_within (parts_of g.C.Choices.choices c.args.self.now) c.requires.ready c.args.at c.args.f
     c.index-as_slice-f.result c.args.values.now given number placed in
     omega (
@@ -78,15 +117,17 @@ place_in_block-place-requires-clause-members g c =
     let given = symbol_read (parts_of g.C.Choices.choices c.args.self.now) c.args.at c.args.f
     c.args.values.now c.requires.symbol c.as_slice.result.now c.index-as_slice-f.result
     c.as_slice.ensures c.index-as_slice-f.is in
-    let placed = rw c.split_at.ensures.front at c.place_of_members-number.ensures.exact in
-    let number = c.place_of_members-number.result in
+    let placed = rw (sources_read (parts_of g.C.Choices.choices c.args.self.now) c.requires.ready c.args.at c.args.f
+    c.index-as_slice-f.result c.args.values.now given c.as_slice-sources.result.now
+    c.index-self-f.result c.as_slice-sources.ensures) at c.place_of_sources-number.ensures.exact in
+    let number = c.place_of_sources-number.result in
     let within = number_within (parts_of g.C.Choices.choices c.args.self.now) c.requires.ready c.args.at c.args.f
     c.index-as_slice-f.result c.args.values.now given number placed in
     let block = c.index-as_slice-number.result in
     let kept = block_read (parts_of g.C.Choices.choices c.args.self.now) c.requires.ready c.args.at c.args.f
     c.index-as_slice-f.result given.marked c.as_slice-2.result.now c.index-self-at.result
     c.as_slice-2.ensures number within block c.index-as_slice-number.is in
-    rw c.as_slice-3.ensures (arguments_below (parts_of g.C.Choices.choices c.args.self.now) c.requires.ready c.args.at c.args.f
+    rw c.as_slice-4.ensures (arguments_below (parts_of g.C.Choices.choices c.args.self.now) c.requires.ready c.args.at c.args.f
     c.index-as_slice-f.result c.args.values.now given number placed block kept)
 
 pub place_in_block-place-requires-clause-numbers : goal.place_in_block-place-requires-clause-numbers
@@ -94,15 +135,22 @@ place_in_block-place-requires-clause-numbers g c =
     let given = symbol_read (parts_of g.C.Choices.choices c.args.self.now) c.args.at c.args.f
     c.args.values.now c.requires.symbol c.as_slice.result.now c.index-as_slice-f.result
     c.as_slice.ensures c.index-as_slice-f.is in
-    let placed = rw c.split_at.ensures.front at c.place_of_members-number.ensures.exact in
-    let number = c.place_of_members-number.result in
+    let placed = rw (sources_read (parts_of g.C.Choices.choices c.args.self.now) c.requires.ready c.args.at c.args.f
+    c.index-as_slice-f.result c.args.values.now given c.as_slice-sources.result.now
+    c.index-self-f.result c.as_slice-sources.ensures) at c.place_of_sources-number.ensures.exact in
+    let number = c.place_of_sources-number.result in
     let within = number_within (parts_of g.C.Choices.choices c.args.self.now) c.requires.ready c.args.at c.args.f
     c.index-as_slice-f.result c.args.values.now given number placed in
     let block = c.index-as_slice-number.result in
     let kept = block_read (parts_of g.C.Choices.choices c.args.self.now) c.requires.ready c.args.at c.args.f
     c.index-as_slice-f.result given.marked c.as_slice-2.result.now c.index-self-at.result
     c.as_slice-2.ensures number within block c.index-as_slice-number.is in
-    rw (c.as_slice-3.ensures, c.split_at.ensures.back) (own_numbers (parts_of g.C.Choices.choices c.args.self.now) c.requires.ready c.args.at c.args.f
+    rw (
+      c.as_slice-4.ensures,
+      c.split_at.ensures.back ∙ own_behind (parts_of g.C.Choices.choices c.args.self.now) c.requires.ready c.args.at c.args.f
+          c.index-as_slice-f.result c.args.values.now given c.as_slice-3.result.now
+          c.as_slice-3.ensures,
+    ) (own_numbers (parts_of g.C.Choices.choices c.args.self.now) c.requires.ready c.args.at c.args.f
     c.index-as_slice-f.result c.args.values.now given number placed block kept)
 
 pub place_in_block-place-requires-clause-entries : goal.place_in_block-place-requires-clause-entries
@@ -110,15 +158,17 @@ place_in_block-place-requires-clause-entries g c =
     let given = symbol_read (parts_of g.C.Choices.choices c.args.self.now) c.args.at c.args.f
     c.args.values.now c.requires.symbol c.as_slice.result.now c.index-as_slice-f.result
     c.as_slice.ensures c.index-as_slice-f.is in
-    let placed = rw c.split_at.ensures.front at c.place_of_members-number.ensures.exact in
-    let number = c.place_of_members-number.result in
+    let placed = rw (sources_read (parts_of g.C.Choices.choices c.args.self.now) c.requires.ready c.args.at c.args.f
+    c.index-as_slice-f.result c.args.values.now given c.as_slice-sources.result.now
+    c.index-self-f.result c.as_slice-sources.ensures) at c.place_of_sources-number.ensures.exact in
+    let number = c.place_of_sources-number.result in
     let within = number_within (parts_of g.C.Choices.choices c.args.self.now) c.requires.ready c.args.at c.args.f
     c.index-as_slice-f.result c.args.values.now given number placed in
     let block = c.index-as_slice-number.result in
     let kept = block_read (parts_of g.C.Choices.choices c.args.self.now) c.requires.ready c.args.at c.args.f
     c.index-as_slice-f.result given.marked c.as_slice-2.result.now c.index-self-at.result
     c.as_slice-2.ensures number within block c.index-as_slice-number.is in
-    rw (c.as_slice-3.ensures, c.symbol_table-table.ensures) (arguments_fit (parts_of g.C.Choices.choices c.args.self.now) c.requires.ready c.args.at c.args.f
+    rw (c.as_slice-4.ensures, c.symbol_table-table.ensures) (arguments_fit (parts_of g.C.Choices.choices c.args.self.now) c.requires.ready c.args.at c.args.f
     c.index-as_slice-f.result c.args.values.now given number placed block kept)
 
 pub overflow_add-entry : goal.overflow_add-entry
@@ -126,15 +176,22 @@ overflow_add-entry g c =
     let given = symbol_read (parts_of g.C.Choices.choices c.args.self.now) c.args.at c.args.f
     c.args.values.now c.requires.symbol c.as_slice.result.now c.index-as_slice-f.result
     c.as_slice.ensures c.index-as_slice-f.is in
-    let placed = rw c.split_at.ensures.front at c.place_of_members-number.ensures.exact in
-    let number = c.place_of_members-number.result in
+    let placed = rw (sources_read (parts_of g.C.Choices.choices c.args.self.now) c.requires.ready c.args.at c.args.f
+    c.index-as_slice-f.result c.args.values.now given c.as_slice-sources.result.now
+    c.index-self-f.result c.as_slice-sources.ensures) at c.place_of_sources-number.ensures.exact in
+    let number = c.place_of_sources-number.result in
     let within = number_within (parts_of g.C.Choices.choices c.args.self.now) c.requires.ready c.args.at c.args.f
     c.index-as_slice-f.result c.args.values.now given number placed in
     let block = c.index-as_slice-number.result in
     let kept = block_read (parts_of g.C.Choices.choices c.args.self.now) c.requires.ready c.args.at c.args.f
     c.index-as_slice-f.result given.marked c.as_slice-2.result.now c.index-self-at.result
     c.as_slice-2.ensures number within block c.index-as_slice-number.is in
-    let stands = rw (c.as_slice-3.ensures, c.split_at.ensures.back) at c.place_in_block-place.ensures.exact in
+    let stands = rw (
+      c.as_slice-4.ensures,
+      c.split_at.ensures.back ∙ own_behind (parts_of g.C.Choices.choices c.args.self.now) c.requires.ready c.args.at c.args.f
+          c.index-as_slice-f.result c.args.values.now given c.as_slice-3.result.now
+          c.as_slice-3.ensures,
+    ) at c.place_in_block-place.ensures.exact in
     let at_place = c.place_in_block-place.result in
     omega (
       arith,
@@ -149,15 +206,22 @@ offset_bounds-table-block g c =
     let given = symbol_read (parts_of g.C.Choices.choices c.args.self.now) c.args.at c.args.f
     c.args.values.now c.requires.symbol c.as_slice.result.now c.index-as_slice-f.result
     c.as_slice.ensures c.index-as_slice-f.is in
-    let placed = rw c.split_at.ensures.front at c.place_of_members-number.ensures.exact in
-    let number = c.place_of_members-number.result in
+    let placed = rw (sources_read (parts_of g.C.Choices.choices c.args.self.now) c.requires.ready c.args.at c.args.f
+    c.index-as_slice-f.result c.args.values.now given c.as_slice-sources.result.now
+    c.index-self-f.result c.as_slice-sources.ensures) at c.place_of_sources-number.ensures.exact in
+    let number = c.place_of_sources-number.result in
     let within = number_within (parts_of g.C.Choices.choices c.args.self.now) c.requires.ready c.args.at c.args.f
     c.index-as_slice-f.result c.args.values.now given number placed in
     let block = c.index-as_slice-number.result in
     let kept = block_read (parts_of g.C.Choices.choices c.args.self.now) c.requires.ready c.args.at c.args.f
     c.index-as_slice-f.result given.marked c.as_slice-2.result.now c.index-self-at.result
     c.as_slice-2.ensures number within block c.index-as_slice-number.is in
-    let stands = rw (c.as_slice-3.ensures, c.split_at.ensures.back) at c.place_in_block-place.ensures.exact in
+    let stands = rw (
+      c.as_slice-4.ensures,
+      c.split_at.ensures.back ∙ own_behind (parts_of g.C.Choices.choices c.args.self.now) c.requires.ready c.args.at c.args.f
+          c.index-as_slice-f.result c.args.values.now given c.as_slice-3.result.now
+          c.as_slice-3.ensures,
+    ) at c.place_in_block-place.ensures.exact in
     let at_place = c.place_in_block-place.result in
     omega (
       arith,
@@ -172,15 +236,22 @@ bounds-table-block g c =
     let given = symbol_read (parts_of g.C.Choices.choices c.args.self.now) c.args.at c.args.f
     c.args.values.now c.requires.symbol c.as_slice.result.now c.index-as_slice-f.result
     c.as_slice.ensures c.index-as_slice-f.is in
-    let placed = rw c.split_at.ensures.front at c.place_of_members-number.ensures.exact in
-    let number = c.place_of_members-number.result in
+    let placed = rw (sources_read (parts_of g.C.Choices.choices c.args.self.now) c.requires.ready c.args.at c.args.f
+    c.index-as_slice-f.result c.args.values.now given c.as_slice-sources.result.now
+    c.index-self-f.result c.as_slice-sources.ensures) at c.place_of_sources-number.ensures.exact in
+    let number = c.place_of_sources-number.result in
     let within = number_within (parts_of g.C.Choices.choices c.args.self.now) c.requires.ready c.args.at c.args.f
     c.index-as_slice-f.result c.args.values.now given number placed in
     let block = c.index-as_slice-number.result in
     let kept = block_read (parts_of g.C.Choices.choices c.args.self.now) c.requires.ready c.args.at c.args.f
     c.index-as_slice-f.result given.marked c.as_slice-2.result.now c.index-self-at.result
     c.as_slice-2.ensures number within block c.index-as_slice-number.is in
-    let stands = rw (c.as_slice-3.ensures, c.split_at.ensures.back) at c.place_in_block-place.ensures.exact in
+    let stands = rw (
+      c.as_slice-4.ensures,
+      c.split_at.ensures.back ∙ own_behind (parts_of g.C.Choices.choices c.args.self.now) c.requires.ready c.args.at c.args.f
+          c.index-as_slice-f.result c.args.values.now given c.as_slice-3.result.now
+          c.as_slice-3.ensures,
+    ) at c.place_in_block-place.ensures.exact in
     let at_place = c.place_in_block-place.result in
     omega (
       arith,
@@ -195,15 +266,22 @@ stamp-requires-clause-member g c =
     let given = symbol_read (parts_of g.C.Choices.choices c.args.self.now) c.args.at c.args.f
     c.args.values.now c.requires.symbol c.as_slice.result.now c.index-as_slice-f.result
     c.as_slice.ensures c.index-as_slice-f.is in
-    let placed = rw c.split_at.ensures.front at c.place_of_members-number.ensures.exact in
-    let number = c.place_of_members-number.result in
+    let placed = rw (sources_read (parts_of g.C.Choices.choices c.args.self.now) c.requires.ready c.args.at c.args.f
+    c.index-as_slice-f.result c.args.values.now given c.as_slice-sources.result.now
+    c.index-self-f.result c.as_slice-sources.ensures) at c.place_of_sources-number.ensures.exact in
+    let number = c.place_of_sources-number.result in
     let within = number_within (parts_of g.C.Choices.choices c.args.self.now) c.requires.ready c.args.at c.args.f
     c.index-as_slice-f.result c.args.values.now given number placed in
     let block = c.index-as_slice-number.result in
     let kept = block_read (parts_of g.C.Choices.choices c.args.self.now) c.requires.ready c.args.at c.args.f
     c.index-as_slice-f.result given.marked c.as_slice-2.result.now c.index-self-at.result
     c.as_slice-2.ensures number within block c.index-as_slice-number.is in
-    let stands = rw (c.as_slice-3.ensures, c.split_at.ensures.back) at c.place_in_block-place.ensures.exact in
+    let stands = rw (
+      c.as_slice-4.ensures,
+      c.split_at.ensures.back ∙ own_behind (parts_of g.C.Choices.choices c.args.self.now) c.requires.ready c.args.at c.args.f
+          c.index-as_slice-f.result c.args.values.now given c.as_slice-3.result.now
+          c.as_slice-3.ensures,
+    ) at c.place_in_block-place.ensures.exact in
     let at_place = c.place_in_block-place.result in
     let entry = slice_index c.symbol_table-table.result.now (block.start + at_place) in
     let read = ap (λ table. slice_index table (block.start + at_place)) c.symbol_table-table.ensures in
@@ -215,15 +293,22 @@ stamp-requires-clause-element g c =
     let given = symbol_read (parts_of g.C.Choices.choices c.args.self.now) c.args.at c.args.f
     c.args.values.now c.requires.symbol c.as_slice.result.now c.index-as_slice-f.result
     c.as_slice.ensures c.index-as_slice-f.is in
-    let placed = rw c.split_at.ensures.front at c.place_of_members-number.ensures.exact in
-    let number = c.place_of_members-number.result in
+    let placed = rw (sources_read (parts_of g.C.Choices.choices c.args.self.now) c.requires.ready c.args.at c.args.f
+    c.index-as_slice-f.result c.args.values.now given c.as_slice-sources.result.now
+    c.index-self-f.result c.as_slice-sources.ensures) at c.place_of_sources-number.ensures.exact in
+    let number = c.place_of_sources-number.result in
     let within = number_within (parts_of g.C.Choices.choices c.args.self.now) c.requires.ready c.args.at c.args.f
     c.index-as_slice-f.result c.args.values.now given number placed in
     let block = c.index-as_slice-number.result in
     let kept = block_read (parts_of g.C.Choices.choices c.args.self.now) c.requires.ready c.args.at c.args.f
     c.index-as_slice-f.result given.marked c.as_slice-2.result.now c.index-self-at.result
     c.as_slice-2.ensures number within block c.index-as_slice-number.is in
-    let stands = rw (c.as_slice-3.ensures, c.split_at.ensures.back) at c.place_in_block-place.ensures.exact in
+    let stands = rw (
+      c.as_slice-4.ensures,
+      c.split_at.ensures.back ∙ own_behind (parts_of g.C.Choices.choices c.args.self.now) c.requires.ready c.args.at c.args.f
+          c.index-as_slice-f.result c.args.values.now given c.as_slice-3.result.now
+          c.as_slice-3.ensures,
+    ) at c.place_in_block-place.ensures.exact in
     let at_place = c.place_in_block-place.result in
     let entry = slice_index c.symbol_table-table.result.now (block.start + at_place) in
     let read = ap (λ table. slice_index table (block.start + at_place)) c.symbol_table-table.ensures in
@@ -235,15 +320,22 @@ returns-in-None g c =
     let given = symbol_read (parts_of g.C.Choices.choices c.args.self.now) c.args.at c.args.f
     c.args.values.now c.requires.symbol c.as_slice.result.now c.index-as_slice-f.result
     c.as_slice.ensures c.index-as_slice-f.is in
-    let placed = rw c.split_at.ensures.front at c.place_of_members-number.ensures.exact in
-    let number = c.place_of_members-number.result in
+    let placed = rw (sources_read (parts_of g.C.Choices.choices c.args.self.now) c.requires.ready c.args.at c.args.f
+    c.index-as_slice-f.result c.args.values.now given c.as_slice-sources.result.now
+    c.index-self-f.result c.as_slice-sources.ensures) at c.place_of_sources-number.ensures.exact in
+    let number = c.place_of_sources-number.result in
     let within = number_within (parts_of g.C.Choices.choices c.args.self.now) c.requires.ready c.args.at c.args.f
     c.index-as_slice-f.result c.args.values.now given number placed in
     let block = c.index-as_slice-number.result in
     let kept = block_read (parts_of g.C.Choices.choices c.args.self.now) c.requires.ready c.args.at c.args.f
     c.index-as_slice-f.result given.marked c.as_slice-2.result.now c.index-self-at.result
     c.as_slice-2.ensures number within block c.index-as_slice-number.is in
-    let stands = rw (c.as_slice-3.ensures, c.split_at.ensures.back) at c.place_in_block-place.ensures.exact in
+    let stands = rw (
+      c.as_slice-4.ensures,
+      c.split_at.ensures.back ∙ own_behind (parts_of g.C.Choices.choices c.args.self.now) c.requires.ready c.args.at c.args.f
+          c.index-as_slice-f.result c.args.values.now given c.as_slice-3.result.now
+          c.as_slice-3.ensures,
+    ) at c.place_in_block-place.ensures.exact in
     let at_place = c.place_in_block-place.result in
     let entry = slice_index c.symbol_table-table.result.now (block.start + at_place) in
     let read = ap (λ table. slice_index table (block.start + at_place)) c.symbol_table-table.ensures in
@@ -257,15 +349,22 @@ returns-in-Some g c =
     let given = symbol_read (parts_of g.C.Choices.choices c.args.self.now) c.args.at c.args.f
     c.args.values.now c.requires.symbol c.as_slice.result.now c.index-as_slice-f.result
     c.as_slice.ensures c.index-as_slice-f.is in
-    let placed = rw c.split_at.ensures.front at c.place_of_members-number.ensures.exact in
-    let number = c.place_of_members-number.result in
+    let placed = rw (sources_read (parts_of g.C.Choices.choices c.args.self.now) c.requires.ready c.args.at c.args.f
+    c.index-as_slice-f.result c.args.values.now given c.as_slice-sources.result.now
+    c.index-self-f.result c.as_slice-sources.ensures) at c.place_of_sources-number.ensures.exact in
+    let number = c.place_of_sources-number.result in
     let within = number_within (parts_of g.C.Choices.choices c.args.self.now) c.requires.ready c.args.at c.args.f
     c.index-as_slice-f.result c.args.values.now given number placed in
     let block = c.index-as_slice-number.result in
     let kept = block_read (parts_of g.C.Choices.choices c.args.self.now) c.requires.ready c.args.at c.args.f
     c.index-as_slice-f.result given.marked c.as_slice-2.result.now c.index-self-at.result
     c.as_slice-2.ensures number within block c.index-as_slice-number.is in
-    let stands = rw (c.as_slice-3.ensures, c.split_at.ensures.back) at c.place_in_block-place.ensures.exact in
+    let stands = rw (
+      c.as_slice-4.ensures,
+      c.split_at.ensures.back ∙ own_behind (parts_of g.C.Choices.choices c.args.self.now) c.requires.ready c.args.at c.args.f
+          c.index-as_slice-f.result c.args.values.now given c.as_slice-3.result.now
+          c.as_slice-3.ensures,
+    ) at c.place_in_block-place.ensures.exact in
     let at_place = c.place_in_block-place.result in
     let entry = slice_index c.symbol_table-table.result.now (block.start + at_place) in
     let read = ap (λ table. slice_index table (block.start + at_place)) c.symbol_table-table.ensures in

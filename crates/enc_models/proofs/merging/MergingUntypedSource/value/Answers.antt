@@ -19,8 +19,7 @@ symbol_value-requires-clause-symbol g c =
     let of = symbol_of (parts_of g.C.Choices.choices c.args.self.now) c.requires.ready c.args.symbol c.args.elements.now
     c.requires.within in
     symbol_for (parts_of g.C.Choices.choices c.args.self.now) c.args.symbol c.args.elements.now of c.as_slice.result.now
-    c.as_slice.ensures (mark.Symbol c.in-Symbol.f) (mark.Symbol 0) c.in-Symbol.is c.requires.ready
-    c.in-Symbol.f refl
+    c.as_slice.ensures (mark.Symbol c.in-Symbol.f) (mark.Symbol 0) c.in-Symbol.is c.in-Symbol.f refl
 
 pub constructor_value-requires-clause-constructor : goal.constructor_value-requires-clause-constructor
 constructor_value-requires-clause-constructor g c =
