@@ -1,0 +1,4 @@
+pub mod Binders
+pub mod Places
+pub mod Depth
+pub mod Rows

@@ -1,0 +1,3 @@
+pub mod Undercover
+pub mod Rows
+pub mod Calls
