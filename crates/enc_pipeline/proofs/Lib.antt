@@ -2,7 +2,7 @@ pub mod Headline
 pub mod FileProblems
 pub mod DistinctNames
 pub mod EncodedNames
-pub mod Guarded
+pub mod Encoded
 pub mod Ready
 pub mod Stops
 pub mod Carry

@@ -17,35 +17,27 @@ use Rattle.fof_text.specs.States.{TextHasFiniteModel, AreNamed}
 use Rattle.fof_text.specs.Written.{text_of}
 use Rattle.model_tables.specs.Writable.{IsNamed, AreNames}
 use Rattle.enc_marks.specs.declared.scheme.Scheme.{Scheme}
-use Rattle.enc_marks.specs.declared.scheme.Scheme.TheVariants.{Guards}
 use Rattle.enc_marks.specs.declared.encoded.Encoded.{Encoded}
 use Rattle.enc_pipeline.specs.declared.how.How.{How}
 use Rattle.enc_pipeline.specs.Way.{Preparation}
 use Rattle.enc_pipeline.specs.Ready.{IsPrepared, IsReady}
 use Rattle.enc_pipeline.specs.Output.{first_line, output_of, translated, output}
 use Rattle.enc_pipeline.specs.Carried.{written_normal, translation, names}
-use Rattle.enc_pipeline.proofs.Built.{each_built}
-use Rattle.enc_pipeline.proofs.Guarded.{guarded_sound, guarded_named, guarded_headline}
+use Rattle.enc_pipeline.proofs.Encoded.{encoded_sound, encoded_named, encoded_headline}
 
 module _ (p : Preparation) (prepared : IsPrepared p) where
-  -- what holds of each scheme that is built
-  pub at_guards : (P : Scheme → Type 0) → P Guards → P p.how.scheme
-  at_guards P holds = each_built P holds p.how.scheme prepared.built
-
   pub sound_normal : IsSoundNormal (written_normal p)
   sound_normal = normal_sound p.problem prepared.sound prepared.within
 
   pub sound_translation : untyped.IsSound (translation p)
   sound_translation =
-      at_guards (λ which. untyped.IsSound (translated which p.problem).problem)
-      (guarded_sound p.problem prepared.sound prepared.named prepared.within)
+      encoded_sound p.how.scheme prepared.built p.problem prepared.sound prepared.named
+      prepared.within
 
   pub translation_is_named : AreNamed (names p) (translation p)
   translation_is_named =
-      at_guards
-      (λ which. AreNamed (chosen_names (translated which p.problem).problem.signature)
-      (translated which p.problem).problem)
-      (guarded_named p.problem prepared.sound prepared.named prepared.within)
+      encoded_named p.how.scheme prepared.built p.problem prepared.sound prepared.named
+      prepared.within
 
   -- the names with which tables of the translation are written and read
   pub are_names : AreNames (translation p).signature (names p)
@@ -71,10 +63,8 @@ module _ (p : Preparation) (prepared : IsPrepared p) where
 
   pub headline : TextHasFiniteModel (output p) ↔ HasFiniteModel p.problem
   headline =
-      at_guards
-      (λ which. TextHasFiniteModel (output_of which (translated which p.problem).problem)
-      ↔ HasFiniteModel p.problem)
-      (guarded_headline p.problem prepared.sound prepared.named prepared.within)
+      encoded_headline p.how.scheme prepared.built p.problem prepared.sound prepared.named
+      prepared.within
 
 -- the translation and the names, as a call gives them
 module _ (p : Preparation) (made : Encoded) (ns : List (List ℕ))

@@ -23,18 +23,15 @@ use Rattle.structure_tables.proofs.ProductSums.{total-same}
 use Rattle.model_tables.specs.Typed as typed
 use Rattle.model_tables.specs.Untyped as untyped_tables
 use Rattle.model_tables.proofs.WrittenTables.{typed_text_is_its_table, untyped_text_is_its_table}
-use Rattle.enc_marks.specs.declared.scheme.Scheme.{Scheme}
-use Rattle.enc_marks.specs.Encoded.{encoded}
-use Rattle.enc_marks.specs.Schemes.{choices_of}
 use Rattle.enc_models.specs.Lowered.{lowered, lowered_structure}
 use Rattle.enc_models.specs.LiftedTables.{lifted_tables, lifted_structure}
-use Rattle.enc_guards.proofs.Models.{lowered_models_are_models, lifted_models_are_models}
 use Rattle.enc_pipeline.specs.Way.{Preparation}
 use Rattle.enc_pipeline.specs.Ready.{IsPrepared}
 use Rattle.enc_pipeline.specs.Carried.{written_normal, translation, names, choices, lifted_model}
 use Rattle.enc_pipeline.specs.Carried.{IsLoweredTo, IsLiftedTo}
 use Rattle.enc_pipeline.specs.Laws.{LoweredTablesAreOfModels, LiftedTablesAreOfModels}
-use Rattle.enc_pipeline.proofs.Ready.{at_guards, sound_normal, are_names, is_named}
+use Rattle.enc_pipeline.proofs.Built.{built_keeps, built_applies}
+use Rattle.enc_pipeline.proofs.Ready.{sound_normal, are_names, is_named}
 use Rattle.enc_pipeline.proofs.Numbers.{untyped_numbers, typed_numbers}
 
 -- ---- the entries of structures that are written as tables
@@ -113,10 +110,9 @@ module _ (p : Preparation) (table output : List ℕ) (prepared : IsPrepared p)
 
   is_model : AreModel (translation p) lowered_model
   is_model =
-      at_guards p prepared
-      (λ (which : Scheme). AreModel (encoded (choices_of which (written_normal p)) (written_normal p)).problem
-      (lowered (choices_of which (written_normal p)) (written_normal p) done.extension))
-      (lowered_models_are_models (written_normal p) done.extension (sound_normal p prepared) normal_model)
+      (built_keeps p.how.scheme prepared.built).lowers (written_normal p) done.extension
+      (sound_normal p prepared) (built_applies p.how.scheme prepared.built (written_normal p))
+      normal_model
 
   within : untyped_tables.structure_entries lowered_model ≤ most_entries
   within =
@@ -146,11 +142,8 @@ module _ (p : Preparation) (table output : List ℕ) (prepared : IsPrepared p)
     (done : IsLiftedTo p table output) where
   normal_lifted : AreNormalModel (written_normal p) (lifted_tables (choices p) (written_normal p) done.model)
   normal_lifted =
-      at_guards p prepared
-      (λ (which : Scheme). AreModel (encoded (choices_of which (written_normal p)) (written_normal p)).problem
-      done.model →
-      AreNormalModel (written_normal p) (lifted_tables (choices_of which (written_normal p)) (written_normal p) done.model))
-      (lifted_models_are_models (written_normal p) done.model (sound_normal p prepared))
+      (built_keeps p.how.scheme prepared.built).lifts (written_normal p) done.model
+      (sound_normal p prepared) (built_applies p.how.scheme prepared.built (written_normal p))
       done.is_table.is_model
 
   is_lifted_model : AreTypedModel p.problem (tables (lifted_model p done.model))

@@ -26,6 +26,9 @@ pub fn is_built(which: &Scheme) -> bool
 {
     match which {
         Scheme::Guards => true,
+        Scheme::Tags => true,
+        Scheme::GuardsCover => true,
+        Scheme::TagsCover => true,
         _ => false,
     }
 }
@@ -41,6 +44,9 @@ pub(crate) fn encode(alloc: Global, which: &Scheme, normal: &Normal) -> Result<E
 {
     match which {
         Scheme::Guards => enc_guards::encode(alloc, Scheme::Guards, normal),
+        Scheme::Tags => enc_tags::encode(alloc, Scheme::Tags, normal),
+        Scheme::GuardsCover => enc_cover::encode(alloc, Scheme::GuardsCover, normal),
+        Scheme::TagsCover => enc_cover::encode(alloc, Scheme::TagsCover, normal),
         _ => unreachable!(),
     }
 }
@@ -69,6 +75,9 @@ pub(crate) fn lower(
 {
     match which {
         Scheme::Guards => enc_guards::lower(alloc, Scheme::Guards, normal, encoded, model),
+        Scheme::Tags => enc_tags::lower(alloc, Scheme::Tags, normal, encoded, model),
+        Scheme::GuardsCover => enc_cover::lower(alloc, Scheme::GuardsCover, normal, encoded, model),
+        Scheme::TagsCover => enc_cover::lower(alloc, Scheme::TagsCover, normal, encoded, model),
         _ => unreachable!(),
     }
 }
@@ -95,6 +104,9 @@ pub(crate) fn lift(
 {
     match which {
         Scheme::Guards => enc_guards::lift(alloc, Scheme::Guards, normal, encoded, model),
+        Scheme::Tags => enc_tags::lift(alloc, Scheme::Tags, normal, encoded, model),
+        Scheme::GuardsCover => enc_cover::lift(alloc, Scheme::GuardsCover, normal, encoded, model),
+        Scheme::TagsCover => enc_cover::lift(alloc, Scheme::TagsCover, normal, encoded, model),
         _ => unreachable!(),
     }
 }

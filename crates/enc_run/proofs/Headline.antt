@@ -19,7 +19,7 @@ use Rattle.enc_pipeline.specs.declared.how.How.{How}
 use Rattle.enc_pipeline.specs.Causes.{nodes_of}
 use Rattle.enc_pipeline.specs.Output.{output_of}
 use Rattle.enc_pipeline.proofs.FileProblems.{spells_of, is_within, has_writable_names}
-use Rattle.enc_pipeline.proofs.Guarded.{guarded_headline}
+use Rattle.enc_pipeline.proofs.Encoded.{encoded_headline}
 use Rattle.enc_pipeline.proofs.Headline.{text_and_problem}
 use Rattle.enc_run.specs.Plain.{is_plain}
 use Rattle.enc_run.specs.Erased.{erased}
@@ -53,10 +53,12 @@ module _ (problem : Problem) (sound : IsSound problem) (writable : HasWritableNa
   -- the same for each scheme and each problem that it takes
   models : (which : Scheme) → encodes which problem ≡ true →
       TextHasFiniteModel (output_of which (untyped_problem which problem)) ↔ HasFiniteModel problem
-  models scheme.Guards taken = guarded_headline problem sound writable within
-  models scheme.Tags taken = absurd cc
-  models scheme.GuardsCover taken = absurd cc
-  models scheme.TagsCover taken = absurd cc
+  models scheme.Guards taken = encoded_headline scheme.Guards refl problem sound writable within
+  models scheme.Tags taken = encoded_headline scheme.Tags refl problem sound writable within
+  models scheme.GuardsCover taken =
+      encoded_headline scheme.GuardsCover refl problem sound writable within
+  models scheme.TagsCover taken =
+      encoded_headline scheme.TagsCover refl problem sound writable within
   models scheme.Args taken = absurd cc
   models scheme.Erase taken = erased_headline taken
   models scheme.GuardsLight taken = absurd cc

@@ -13,6 +13,7 @@ pub mod PlainSignature
 pub mod WritableNames
 pub mod Translated
 pub mod Headline
+pub mod Leads
 pub mod TextEndings
 pub mod RunEndings
 pub mod TableLaws

@@ -8,17 +8,16 @@ use Rattle.enc_pipeline.specs.declared.fault.Fault.{Fault}
 use Rattle.enc_pipeline.specs.Carried.{translation}
 use Rattle.enc_pipeline.specs.declared.how.How.{How}
 use Rattle.enc_pipeline.specs.Causes.{nodes_of}
-use Rattle.enc_pipeline.specs.Output.{translated}
 use Rattle.enc_pipeline.specs.Way.{is_built}
 use Rattle.enc_pipeline.specs.Reading.{HasProblem}
 use Rattle.enc_pipeline.specs.Ready.{IsPrepared}
-use Rattle.enc_pipeline.proofs.Built.{each_built}
 use Rattle.enc_pipeline.proofs.DistinctNames.{has_distinct_names}
 use Rattle.enc_pipeline.proofs.FileProblems.{is_within, has_writable_names}
 use Rattle.enc_pipeline.proofs.OneAnswer.{checking_has_one_answer, lowering_has_one_answer, lifting_has_one_answer}
 use Rattle.enc_run.specs.Leads.{RefusesTable, Writes, preparation, untyped_problem}
 use Rattle.enc_run.specs.declared.job.Task.{Task}
 use Rattle.enc_run.specs.declared.job.Task.TheVariants.{Encode, Check, Lower, Lift}
+use Rattle.enc_run.proofs.Leads.{is_translated}
 
 -- ---- one answer
 
@@ -51,9 +50,7 @@ not_both (Lift name how) problem table reason output refused written =
 -- models are carried to the translation that is written
 pub carried_as_encoded : (how : How) (problem : Problem) → is_built how.scheme ≡ true
     → translation (preparation how problem) ≡ untyped_problem how.scheme problem
-carried_as_encoded how problem built =
-    each_built (λ (s : Scheme). (translated s problem).problem ≡ untyped_problem s problem) refl
-    how.scheme built
+carried_as_encoded how problem built = is_translated how.scheme problem built
 
 -- a text's problem within the limit is prepared in a way that is built
 pub is_prepared : (how : How) (text : List ℕ) (problem : Problem) → HasProblem text problem

@@ -4,21 +4,19 @@ use Rattle.std.specs.Prelude.{[]}
 use Rattle.std.specs.Io.KnownBytes.{Appends}
 use Rattle.enc_base.specs.Library.{IsHeld}
 use Rattle.tf_core.specs.declared.problem.Problem.{Problem}
-use Rattle.enc_marks.specs.declared.refusal.Refusal.TheVariants as refusal
+use Rattle.tf_nnf.specs.NormalForm.{normal_of}
 use Rattle.tf_nnf.specs.Refusal.{most_nodes}
 use Rattle.fof_models.specs.declared.problem.FofProblem.{FofProblem}
 use Rattle.enc_marks.specs.declared.scheme.Scheme.{Scheme}
-use Rattle.enc_marks.specs.declared.scheme.Scheme.TheVariants as scheme
 use Rattle.enc_pipeline.specs.Carried.{IsLoweredTo, IsUnlowered, IsLiftedTo, IsUnlifted}
 use Rattle.enc_pipeline.specs.Causes.{IsUnreadable, IsUnprepared, nodes_of}
-use Rattle.enc_pipeline.specs.Output.{output, output_of, translated}
+use Rattle.enc_pipeline.specs.Output.{output, output_of}
 use Rattle.enc_pipeline.specs.Reading.{HasProblem}
 use Rattle.enc_pipeline.specs.Stopped.{IsStopped}
-use Rattle.enc_pipeline.specs.Way.{Preparation, is_built, plain_way}
+use Rattle.enc_pipeline.specs.Way.{Preparation, is_built}
 use Rattle.enc_pipeline.specs.declared.how.How.{How}
 use Rattle.enc_pipeline.specs.declared.fault.Fault.{Fault}
 use Rattle.enc_pipeline.specs.declared.fault.Fault.TheVariants as fault
-use Rattle.enc_pipeline.proofs.Built.{each_built, only_guards}
 use Rattle.enc_run.specs.Calls.Ending.{IsUnread}
 use Rattle.enc_run.specs.Job.{table_name}
 use Rattle.enc_run.specs.Leads.{is_taken, is_normalised, IsAccepted, IsAcceptable}
@@ -30,6 +28,7 @@ use Rattle.enc_run.specs.declared.job.Task.{Task}
 use Rattle.enc_run.specs.declared.job.Task.TheVariants.{Encode, Check, Lower, Lift}
 use Rattle.enc_run.specs.declared.stop.Stop.{Stop}
 use Rattle.enc_run.specs.declared.stop.Stop.TheVariants.{NotBuilt, Unread, Refused, Unwritten, Memory}
+use Rattle.enc_run.proofs.Leads.{is_encoded, is_translated, unrefused}
 
 -- a text that has no problem stops each task
 pub unreadable_stops : (task : Task) (text : List ℕ) (reason : Fault) → IsUnreadable text reason
@@ -50,31 +49,19 @@ unreadable_stops task text fault.Memory unread = tt
 -- problem
 module _ (task : Task) (text : List ℕ) (problem : Problem) (has : HasProblem text problem)
     (taken : is_taken task problem ≡ true) (normalised : is_normalised task ≡ true) where
-  at_guards : (reason : Fault)
-      → IsUnprepared problem (plain_way scheme.Guards) reason
-      → TextStops task text (stop_of reason)
-  at_guards (fault.Reading reason) why = absurd why
-  at_guards (fault.Typing reason) why = absurd why
-  at_guards (fault.TooLarge nodes) why =
+  pub unprepared_stops : (how : How) → is_built how.scheme ≡ true → (reason : Fault)
+      → IsUnprepared problem how reason → TextStops task text (stop_of reason)
+  unprepared_stops how built (fault.Reading reason) why = absurd why
+  unprepared_stops how built (fault.Typing reason) why = absurd why
+  unprepared_stops how built (fault.TooLarge nodes) why =
       (Ok problem, has, (taken, normalised, why.0, why.1))
-  at_guards (fault.Scheme (refusal.NotMonomorphic name)) why =
-      let asks = why.2.0 in absurd cc
-  at_guards (fault.Scheme (refusal.NotMonotone place)) why =
-      let none = why.2.1 in absurd cc
-  at_guards (fault.Scheme (refusal.TableTooLarge entries)) why = absurd why.1
-  at_guards (fault.Scheme refusal.Memory) why = absurd why.1
-  at_guards fault.Incomplete why = absurd why
-  at_guards (fault.Table reason) why = absurd why
-  at_guards (fault.NotModel formula) why = absurd why
-  at_guards fault.Write why = absurd why
-  at_guards fault.Memory why = tt
-
-  pub unprepared_stops : (how : How) → is_built how.scheme ≡ true → how ≡ plain_way how.scheme
-      → (reason : Fault) → IsUnprepared problem how reason → TextStops task text (stop_of reason)
-  unprepared_stops how built plain reason why =
-      let guards : how ≡ plain_way scheme.Guards =
-      plain ∙ ap plain_way (only_guards how.scheme built) in
-      at_guards reason (subst (λ (h : How). IsUnprepared problem h reason) guards why)
+  unprepared_stops how built (fault.Scheme reason) why =
+      absurd (unrefused how.scheme (normal_of problem) built reason why.1 why.2)
+  unprepared_stops how built fault.Incomplete why = absurd why
+  unprepared_stops how built (fault.Table reason) why = absurd why
+  unprepared_stops how built (fault.NotModel formula) why = absurd why
+  unprepared_stops how built fault.Write why = absurd why
+  unprepared_stops how built fault.Memory why = tt
 
 module _ (task : Task) (text : List ℕ) (w : Work) where
   -- the task is stopped by its problem's text
@@ -190,43 +177,29 @@ module _ (how : How) (name text : List ℕ) (p : Preparation) (is : HasPrepared 
 -- the encoding of a problem in a way that is built
 module _ (how : How) (problem : Problem) (built : is_built how.scheme ≡ true) where
   -- what isn't prepared stops it
-  pub unprepared : how ≡ plain_way how.scheme → (reason : Fault)
-      → IsUnprepared problem how reason → ProblemStops how.scheme problem (stop_of reason)
-  unprepared plain reason why =
-      each_built (λ (s : Scheme). ProblemStops s problem (stop_of reason))
-      (at_guards reason (subst (λ (h : How). IsUnprepared problem h reason) guards why))
-      how.scheme built
-    where
-      guards : how ≡ plain_way scheme.Guards
-      guards = plain ∙ ap plain_way (only_guards how.scheme built)
-
-      at_guards : (reason : Fault) → IsUnprepared problem (plain_way scheme.Guards) reason
-          → ProblemStops scheme.Guards problem (stop_of reason)
-      at_guards (fault.Reading reason) why = absurd why
-      at_guards (fault.Typing reason) why = absurd why
-      at_guards (fault.TooLarge nodes) why = (refl, why.0, why.1)
-      at_guards (fault.Scheme (refusal.NotMonomorphic name)) why =
-          let asks = why.2.0 in absurd cc
-      at_guards (fault.Scheme (refusal.NotMonotone place)) why =
-          let none = why.2.1 in absurd cc
-      at_guards (fault.Scheme (refusal.TableTooLarge entries)) why = absurd why.1
-      at_guards (fault.Scheme refusal.Memory) why = absurd why.1
-      at_guards fault.Incomplete why = absurd why
-      at_guards (fault.Table reason) why = absurd why
-      at_guards (fault.NotModel formula) why = absurd why
-      at_guards fault.Write why = absurd why
-      at_guards fault.Memory why = tt
+  pub unprepared : (reason : Fault) → IsUnprepared problem how reason
+      → ProblemStops how.scheme problem (stop_of reason)
+  unprepared (fault.Reading reason) why = absurd why
+  unprepared (fault.Typing reason) why = absurd why
+  unprepared (fault.TooLarge nodes) why =
+      (is_encoded how.scheme problem built, why.0, why.1)
+  unprepared (fault.Scheme reason) why =
+      absurd (unrefused how.scheme (normal_of problem) built reason why.1 why.2)
+  unprepared fault.Incomplete why = absurd why
+  unprepared (fault.Table reason) why = absurd why
+  unprepared (fault.NotModel formula) why = absurd why
+  unprepared fault.Write why = absurd why
+  unprepared fault.Memory why = tt
 
   -- so much of its output is so much of its encoding
   pub written : (Part : List ℕ → Type 0) → nodes_of problem ≤ most_nodes
       → Part (output (preparation how problem)) → IsWritten how.scheme problem Part
   written Part within part = record {
-    taken = each_built (λ (s : Scheme). encodes s problem ≡ true) refl how.scheme built;
+    taken = is_encoded how.scheme problem built;
     within = within;
     written =
         subst (λ (p : FofProblem). Part (output_of how.scheme p))
-        (each_built (λ (s : Scheme). (translated s problem).problem ≡ untyped_problem s problem)
-        refl how.scheme built) part;
+        (is_translated how.scheme problem built) part;
   }
 
 -- a problem that stops its encoding ends it

@@ -20,10 +20,13 @@ table_name (Lower table how) = Some table
 table_name (Lift table how) = Some table
 
 -- the scheme of this name, where it is built
-abbrev pub scheme_of : List ℕ → Option Scheme
+unfoldable pub scheme_of : List ℕ → Option Scheme
 scheme_of name =
     if bytes_eq name (scheme_name scheme.Guards) then Some scheme.Guards
-    else (if bytes_eq name (scheme_name scheme.Erase) then Some scheme.Erase else None)
+    else (if bytes_eq name (scheme_name scheme.Tags) then Some scheme.Tags
+    else (if bytes_eq name (scheme_name scheme.GuardsCover) then Some scheme.GuardsCover
+    else (if bytes_eq name (scheme_name scheme.TagsCover) then Some scheme.TagsCover
+    else (if bytes_eq name (scheme_name scheme.Erase) then Some scheme.Erase else None))))
 
 -- ---- tasks, by the name of the action
 

@@ -28,11 +28,18 @@ pub struct Job {
 }
 
 // the scheme of this name, where it is built
+#[tactic(auto, unfolding(crate::specs::Job::scheme_of))]
 fn scheme_of(name: &str) -> Option<Scheme>
     ensures { result ≡ spec.scheme_of name.now }
 {
     if name == scheme_name(&Scheme::Guards) {
         Some(Scheme::Guards)
+    } else if name == scheme_name(&Scheme::Tags) {
+        Some(Scheme::Tags)
+    } else if name == scheme_name(&Scheme::GuardsCover) {
+        Some(Scheme::GuardsCover)
+    } else if name == scheme_name(&Scheme::TagsCover) {
+        Some(Scheme::TagsCover)
     } else if name == scheme_name(&Scheme::Erase) {
         Some(Scheme::Erase)
     } else {

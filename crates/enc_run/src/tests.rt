@@ -106,6 +106,16 @@ function fresh_0 = 1.
 predicate is = 0 0 1 0 0 0 0 0 1 1 0 0 1 0 0 0 0 0 1 1 0 0 0 1 1.
 ";
 
+const LOWERED_BY_TAGS: &str = "untyped 1.
+size 5.
+function fresh_0 = 1.
+function as = 2 2 2 2 2 3 3 3 3 4 2 2 2 2 2 3 3 3 3 4 3 3 3 3 4.
+";
+
+const IDEMPOTENCE: &str = "% tfenc tags_cover complete
+fof(tag_idempotence,axiom,![X0]: ![X1]: as(X0,as(X0,X1)) = as(X0,X1)).
+";
+
 // so many axioms, a line each
 fn axioms(alloc: Global, first: &str, count: usize) -> Result<String, Fail> {
     let mut text = String::from_str(alloc, first)?;
@@ -130,6 +140,19 @@ fn each_write_fails_in_turn(rt: HostRuntime) -> Result<(), Fail> {
             1,
         ),
         (
+            ("tff(p,axiom,![A: $tType,X: A,Y: A]: X = Y).", ""),
+            "encode p --scheme tags",
+            "% tfenc tags complete\nfof(p,axiom,![X0]: ![X1]: ![X2]: as(X0,X1) = as(X0,X2)).\n",
+            1,
+        ),
+        (
+            ("", ""),
+            "encode p --scheme guards_cover",
+            "% tfenc guards_cover complete\nfof(inhabitation,axiom,![X0]: ?[X1]: is(X0,X1)).\n",
+            1,
+        ),
+        (("", ""), "encode p --scheme tags_cover", IDEMPOTENCE, 1),
+        (
             (long.as_str(), ""),
             "encode p --scheme erase",
             long_wanted.as_str(),
@@ -137,6 +160,24 @@ fn each_write_fails_in_turn(rt: HostRuntime) -> Result<(), Fail> {
         ),
         ((ALL_EQUAL, TWO_ELEMENTS), "check p t", "model\n", 1),
         ((ALL_EQUAL, TWO_ELEMENTS), "lower p t", LOWERED, 1),
+        (
+            (ALL_EQUAL, TWO_ELEMENTS),
+            "lower p t --scheme tags",
+            LOWERED_BY_TAGS,
+            1,
+        ),
+        (
+            (ALL_EQUAL, TWO_ELEMENTS),
+            "lower p t --scheme guards_cover",
+            LOWERED,
+            1,
+        ),
+        (
+            (ALL_EQUAL, TWO_ELEMENTS),
+            "lower p t --scheme tags_cover",
+            LOWERED_BY_TAGS,
+            1,
+        ),
         (
             (ALL_EQUAL, LOWERED),
             "lift p t",

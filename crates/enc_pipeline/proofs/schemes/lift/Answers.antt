@@ -1,10 +1,25 @@
-use Rattle.enc_pipeline.proofs.Built.{only_guards}
 use Rattle.enc_pipeline.proofs.schemes.lift.Goals as goal
 
-pub returns-clause-exact : goal.returns-clause-exact
-returns-clause-exact c =
-    rw (only_guards c.args.which.now c.requires.built) c.lift.ensures.exact
+pub returns-in-Guards-clause-exact : goal.returns-in-Guards-clause-exact
+returns-in-Guards-clause-exact c = rw c.in-Guards.is c.lift.ensures.exact
 
-pub returns-clause-within : goal.returns-clause-within
-returns-clause-within c =
-    rw (only_guards c.args.which.now c.requires.built) c.lift.ensures.within
+pub returns-in-Guards-clause-within : goal.returns-in-Guards-clause-within
+returns-in-Guards-clause-within c = rw c.in-Guards.is c.lift.ensures.within
+
+pub returns-in-Tags-clause-exact : goal.returns-in-Tags-clause-exact
+returns-in-Tags-clause-exact c = rw c.in-Tags.is c.lift-in-Tags.ensures.exact
+
+pub returns-in-Tags-clause-within : goal.returns-in-Tags-clause-within
+returns-in-Tags-clause-within c = rw c.in-Tags.is c.lift-in-Tags.ensures.within
+
+pub returns-in-GuardsCover-clause-exact : goal.returns-in-GuardsCover-clause-exact
+returns-in-GuardsCover-clause-exact c = rw c.in-GuardsCover.is c.lift-in-GuardsCover.ensures.exact
+
+pub returns-in-GuardsCover-clause-within : goal.returns-in-GuardsCover-clause-within
+returns-in-GuardsCover-clause-within c = rw c.in-GuardsCover.is c.lift-in-GuardsCover.ensures.within
+
+pub returns-in-TagsCover-clause-exact : goal.returns-in-TagsCover-clause-exact
+returns-in-TagsCover-clause-exact c = rw c.in-TagsCover.is c.lift-in-TagsCover.ensures.exact
+
+pub returns-in-TagsCover-clause-within : goal.returns-in-TagsCover-clause-within
+returns-in-TagsCover-clause-within c = rw c.in-TagsCover.is c.lift-in-TagsCover.ensures.within

@@ -1,6 +1,13 @@
-use Rattle.enc_pipeline.proofs.Built.{only_guards}
 use Rattle.enc_pipeline.proofs.schemes.lower.Goals as goal
 
-pub returns-clause-exact : goal.returns-clause-exact
-returns-clause-exact c =
-    rw (only_guards c.args.which.now c.requires.built) c.lower.ensures.exact
+pub returns-in-Guards-clause-exact : goal.returns-in-Guards-clause-exact
+returns-in-Guards-clause-exact c = rw c.in-Guards.is c.lower.ensures.exact
+
+pub returns-in-Tags-clause-exact : goal.returns-in-Tags-clause-exact
+returns-in-Tags-clause-exact c = rw c.in-Tags.is c.lower-in-Tags.ensures.exact
+
+pub returns-in-GuardsCover-clause-exact : goal.returns-in-GuardsCover-clause-exact
+returns-in-GuardsCover-clause-exact c = rw c.in-GuardsCover.is c.lower-in-GuardsCover.ensures.exact
+
+pub returns-in-TagsCover-clause-exact : goal.returns-in-TagsCover-clause-exact
+returns-in-TagsCover-clause-exact c = rw c.in-TagsCover.is c.lower-in-TagsCover.ensures.exact

@@ -25,7 +25,7 @@ returns-in_err-prepared g c =
     let ends = handed_on (ProblemEnds c.args.how.scheme c.args.problem _ _) c.from_residual.result
     (stop_of reason) c.from_residual.ensures
     (problem_stopped c.args.how.scheme c.args.problem _ _ (stop_of reason)
-    (unprepared c.args.how c.args.problem c.requires.built c.requires.plain reason
+    (unprepared c.args.how c.args.problem c.requires.built reason
     c.in_err-prepared.ensures.refused) (Keeps-refl _, refl)) in
     record { ends = ends }
 

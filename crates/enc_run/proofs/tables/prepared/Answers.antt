@@ -28,7 +28,7 @@ returns-in_err-prepare-clause-cause c =
     c.from_residual-in_err-prepare.result (stop_of reason) c.from_residual-in_err-prepare.ensures
     (λ name. (
       unprepared_stops (Lower name how) text c.in_ok-source.source has (search rules) refl how
-          (search rules) c.requires.plain reason refused,
+          (search rules) reason refused,
       unprepared_stops (Lift name how) text c.in_ok-source.source has (search rules) refl how
-          (search rules) c.requires.plain reason refused,
+          (search rules) reason refused,
     ))
