@@ -67,15 +67,6 @@ pub fn numbers(alloc: Global, words: &[u8]) -> Result<List<u32>, Stop> {
     Ok(found)
 }
 
-/// Lists of numbers with semicolons between them.
-pub fn lists(alloc: Global, words: &[u8]) -> Result<Vec<List<u32>>, Stop> {
-    let mut found = Vec::new(alloc);
-    for part in words.split(|byte| *byte == b';') {
-        found.push(numbers(alloc, part)?)?;
-    }
-    Ok(found)
-}
-
 /// The scheme of this name.
 pub fn scheme(word: &[u8]) -> Result<Scheme, Stop> {
     match word {

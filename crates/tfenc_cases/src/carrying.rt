@@ -1,25 +1,29 @@
 //! Models, carried to translations and back.
 
-ghost use Rattle.std.specs.Prelude.{◌≡◌, ◌<◌, ◌^◌, length};
-ghost use Rattle.tf_core.specs.Sound.{IsSoundNormal};
-ghost use Rattle.tf_core.specs.TypedTables.{AreNormalModel};
+ghost use Rattle.std.specs.Prelude.{◌≡◌, ◌<◌, ◌^◌, OnOk, length};
+ghost use Rattle.tf_core.specs.Sound.{IsSound, IsSoundNormal};
+ghost use Rattle.tf_core.specs.TypedTables as typed;
+ghost use Rattle.tf_check.specs.Writable.{HasWritableNames};
 ghost use Rattle.tf_models.specs.Reading.{tables};
+ghost use Rattle.tf_nnf.specs.NormalForm.{normal_of};
+ghost use Rattle.fof_models.specs.Sound as untyped;
 ghost use Rattle.fof_models.specs.Models.{AreModel};
+ghost use Rattle.fof_text.specs.States.{AreNamed};
 ghost use Rattle.enc_marks.specs.Encoded.{encoded};
 ghost use Rattle.enc_marks.specs.Schemes.{choices_of};
+ghost use Rattle.enc_pipeline.specs.Distinct.{HasDistinctNames};
 
 use crate::call::Call;
-use crate::choices::Tags;
-use crate::encoding::{encoding_by, first_false_in, untyped_model_of};
+use crate::encoding::{Encoding, encoding_by, first_false_in, untyped_model_of};
 use crate::given::{extension_of, model_of, normal_of, problem_of};
 use crate::out::Out;
 use crate::put_tables::{put_typed, put_untyped};
 use crate::refusals::{no_model, not_built, unencoded};
 use crate::stop::Stop;
 use enc_marks::{Encoded, Scheme};
-use fof_models::Structure;
+use fof_models::{FofProblem, Structure};
 use std::alloc::Global;
-use tf_core::Normal;
+use tf_core::{Normal, Problem};
 use tf_models::TypedStructure;
 
 /// Whether the call is one of this layer, which is then made.
@@ -43,12 +47,14 @@ fn lowered_by(
 ) -> Result<Structure, Stop>
     requires sound { IsSoundNormal normal.now }
     requires encoded { made.now ≡ encoded (choices_of which.now normal.now) normal.now }
-    requires model { AreNormalModel normal.now (tables model.now) }
+    requires model { typed.AreNormalModel normal.now (tables model.now) }
     requires few { length model.now.sizes < 2 ^ 32 }
 {
     let lowered = match which {
         Scheme::Guards => enc_guards::lower(alloc, Scheme::Guards, normal, made, model),
-        Scheme::Tags => enc_models::lower(alloc, &Tags, normal, made, model),
+        Scheme::Tags => enc_tags::lower(alloc, Scheme::Tags, normal, made, model),
+        Scheme::GuardsCover => enc_cover::lower(alloc, Scheme::GuardsCover, normal, made, model),
+        Scheme::TagsCover => enc_cover::lower(alloc, Scheme::TagsCover, normal, made, model),
         _ => return Err(not_built(alloc)),
     };
     match lowered {
@@ -69,25 +75,170 @@ fn lifted_by(
     requires encoded { made.now ≡ encoded (choices_of which.now normal.now) normal.now }
     requires model { AreModel made.now.problem model.now }
 {
-    match which {
-        Scheme::Guards => match enc_guards::lift(alloc, Scheme::Guards, normal, made, model) {
-            Ok(structure) => Ok(structure),
-            Err(reason) => Err(unencoded(alloc, &reason)),
-        },
-        _ => Err(not_built(alloc)),
+    let lifted = match which {
+        Scheme::Guards => enc_guards::lift(alloc, Scheme::Guards, normal, made, model),
+        Scheme::Tags => enc_tags::lift(alloc, Scheme::Tags, normal, made, model),
+        Scheme::GuardsCover => enc_cover::lift(alloc, Scheme::GuardsCover, normal, made, model),
+        Scheme::TagsCover => enc_cover::lift(alloc, Scheme::TagsCover, normal, made, model),
+        _ => return Err(not_built(alloc)),
+    };
+    match lifted {
+        Ok(structure) => Ok(structure),
+        Err(reason) => Err(unencoded(alloc, &reason)),
     }
 }
 
 fn lower(call: &mut Call<'_>, out: &mut Out) -> Result<(), Stop> {
+    carry(call, out, false)
+}
+
+fn there_and_back(call: &mut Call<'_>, out: &mut Out) -> Result<(), Stop> {
+    carry(call, out, true)
+}
+
+// carries the model of a typed table to the translation, and back if asked
+fn carry(call: &mut Call<'_>, out: &mut Out, back: bool) -> Result<(), Stop> {
     let which = call.scheme()?;
     let problem = problem_of(call.alloc, call.texts.problem.as_slice())?;
-    let model = model_of(call.alloc, &problem, call.typed())?;
-    let normal = normal_of(call.alloc, &problem)?;
-    let extension = extension_of(call.alloc, &problem, &normal, &model)?;
-    let made = encoding_by(call.alloc, &which, &problem, &normal)?;
-    let structure = lowered_by(call.alloc, &which, &normal, &made.encoded, &extension)?;
+    carry_table(out, &which, &problem, call.typed(), back)
+}
+
+fn carry_table(
+    out: &mut Out,
+    which: &Scheme,
+    problem: &Problem,
+    table: &[u8],
+    back: bool,
+) -> Result<(), Stop>
+    requires sound { IsSound problem.now }
+    requires named { HasWritableNames problem.now }
+    requires distinct { HasDistinctNames problem.now }
+{
+    let model = model_of(out.alloc, problem, table)?;
+    carry_model(out, which, problem, &model, back)
+}
+
+fn carry_model(
+    out: &mut Out,
+    which: &Scheme,
+    problem: &Problem,
+    model: &TypedStructure,
+    back: bool,
+) -> Result<(), Stop>
+    requires sound { IsSound problem.now }
+    requires named { HasWritableNames problem.now }
+    requires model { typed.AreModel problem.now (tables model.now) }
+    requires few { length model.now.sizes < 2 ^ 32 }
+{
+    let normal = normal_of(out.alloc, problem)?;
+    carry_normal(out, which, problem, &normal, model, back)
+}
+
+fn carry_normal(
+    out: &mut Out,
+    which: &Scheme,
+    problem: &Problem,
+    normal: &Normal,
+    model: &TypedStructure,
+    back: bool,
+) -> Result<(), Stop>
+    requires sound { IsSound problem.now }
+    requires normal_sound { IsSoundNormal normal.now }
+    requires named { HasWritableNames problem.now }
+    requires normal { normal.now ≡ normal_of problem.now }
+    requires model { typed.AreModel problem.now (tables model.now) }
+    requires few { length model.now.sizes < 2 ^ 32 }
+{
+    let extension = extension_of(out.alloc, problem, normal, model)?;
+    carry_extension(out, which, problem, normal, &extension, back)
+}
+
+fn carry_extension(
+    out: &mut Out,
+    which: &Scheme,
+    problem: &Problem,
+    normal: &Normal,
+    extension: &TypedStructure,
+    back: bool,
+) -> Result<(), Stop>
+    requires sound { IsSoundNormal normal.now }
+    requires named { HasWritableNames problem.now }
+    requires normal { normal.now ≡ normal_of problem.now }
+    requires model { typed.AreNormalModel normal.now (tables extension.now) }
+    requires few { length extension.now.sizes < 2 ^ 32 }
+{
+    let made = encoding_by(out.alloc, which, problem, normal)?;
+    if back {
+        put_back(out, which, normal, &made.encoded, extension)
+    } else {
+        put_lowered(out, which, normal, &made, extension)
+    }
+}
+
+fn put_lowered(
+    out: &mut Out,
+    which: &Scheme,
+    normal: &Normal,
+    made: &Encoding,
+    extension: &TypedStructure,
+) -> Result<(), Stop>
+    requires sound { IsSoundNormal normal.now }
+    requires encoded { made.now.encoded ≡ encoded (choices_of which.now normal.now) normal.now }
+    requires model { typed.AreNormalModel normal.now (tables extension.now) }
+    requires few { length extension.now.sizes < 2 ^ 32 }
+{
+    let lowered = lowered_by(out.alloc, which, normal, &made.encoded, extension)?;
     let signature = made.encoded.problem.signature.as_slice();
-    put_untyped(out, signature, &made.names, &structure);
+    put_untyped(out, signature, &made.names, &lowered);
+    Ok(())
+}
+
+// what the model of the translation is carried back to
+fn put_back(
+    out: &mut Out,
+    which: &Scheme,
+    normal: &Normal,
+    made: &Encoded,
+    extension: &TypedStructure,
+) -> Result<(), Stop>
+    requires sound { IsSoundNormal normal.now }
+    requires encoded { made.now ≡ encoded (choices_of which.now normal.now) normal.now }
+    requires translated { untyped.IsSound made.now.problem }
+    requires model { typed.AreNormalModel normal.now (tables extension.now) }
+    requires few { length extension.now.sizes < 2 ^ 32 }
+{
+    let lowered = lowered_by(out.alloc, which, normal, made, extension)?;
+    check_model(out.alloc, &made.problem, &lowered)?;
+    put_lifted(out, which, normal, made, &lowered)
+}
+
+// refuses a structure that is no model
+fn check_model(alloc: Global, problem: &FofProblem, lowered: &Structure) -> Result<(), Stop>
+    requires sound { untyped.IsSound problem.now }
+    ensures { OnOk result (AreModel problem.now lowered.now) }
+{
+    if !lowered.well_formed(problem.signature.as_slice()) {
+        return Err(Stop::Shape);
+    }
+    match first_false_in(alloc, problem, lowered)? {
+        None => Ok(()),
+        Some(formula) => Err(no_model(alloc, formula)),
+    }
+}
+
+fn put_lifted(
+    out: &mut Out,
+    which: &Scheme,
+    normal: &Normal,
+    made: &Encoded,
+    model: &Structure,
+) -> Result<(), Stop>
+    requires sound { IsSoundNormal normal.now }
+    requires encoded { made.now ≡ encoded (choices_of which.now normal.now) normal.now }
+    requires model { AreModel made.now.problem model.now }
+{
+    let lifted = lifted_by(out.alloc, which, normal, made, model)?;
+    put_typed(out, &normal.signature, &lifted);
     Ok(())
 }
 
@@ -95,29 +246,36 @@ fn lift(call: &mut Call<'_>, out: &mut Out) -> Result<(), Stop> {
     let which = call.scheme()?;
     let problem = problem_of(call.alloc, call.texts.problem.as_slice())?;
     let normal = normal_of(call.alloc, &problem)?;
-    let made = encoding_by(call.alloc, &which, &problem, &normal)?;
-    let model = untyped_model_of(call.alloc, &made, call.untyped())?;
-    let structure = lifted_by(call.alloc, &which, &normal, &made.encoded, &model)?;
-    put_typed(out, &normal.signature, &structure);
-    Ok(())
+    lift_table(out, &which, &problem, &normal, call.untyped())
 }
 
-fn there_and_back(call: &mut Call<'_>, out: &mut Out) -> Result<(), Stop> {
-    let which = call.scheme()?;
-    let problem = problem_of(call.alloc, call.texts.problem.as_slice())?;
-    let model = model_of(call.alloc, &problem, call.typed())?;
-    let normal = normal_of(call.alloc, &problem)?;
-    let extension = extension_of(call.alloc, &problem, &normal, &model)?;
-    let made = encoding_by(call.alloc, &which, &problem, &normal)?;
-    let lowered = lowered_by(call.alloc, &which, &normal, &made.encoded, &extension)?;
-    let problem = &made.encoded.problem;
-    if !lowered.well_formed(problem.signature.as_slice()) {
-        return Err(Stop::Shape);
-    }
-    if let Some(formula) = first_false_in(call.alloc, problem, &lowered)? {
-        return Err(no_model(call.alloc, formula));
-    }
-    let lifted = lifted_by(call.alloc, &which, &normal, &made.encoded, &lowered)?;
-    put_typed(out, &normal.signature, &lifted);
-    Ok(())
+fn lift_table(
+    out: &mut Out,
+    which: &Scheme,
+    problem: &Problem,
+    normal: &Normal,
+    table: &[u8],
+) -> Result<(), Stop>
+    requires sound { IsSoundNormal normal.now }
+    requires named { HasWritableNames problem.now }
+    requires normal { normal.now ≡ normal_of problem.now }
+{
+    let made = encoding_by(out.alloc, which, problem, normal)?;
+    lift_model(out, which, normal, &made, table)
+}
+
+fn lift_model(
+    out: &mut Out,
+    which: &Scheme,
+    normal: &Normal,
+    made: &Encoding,
+    table: &[u8],
+) -> Result<(), Stop>
+    requires sound { IsSoundNormal normal.now }
+    requires encoded { made.now.encoded ≡ encoded (choices_of which.now normal.now) normal.now }
+    requires translated { untyped.IsSound made.now.encoded.problem }
+    requires named { AreNamed made.now.names made.now.encoded.problem }
+{
+    let model = untyped_model_of(out.alloc, made, table)?;
+    put_lifted(out, which, normal, &made.encoded, &model)
 }

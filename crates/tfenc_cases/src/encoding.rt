@@ -1,6 +1,7 @@
 //! Translations by scheme, with the names of their symbols.
 
 ghost use Rattle.std.specs.Prelude.{◌≡◌, ◌↔◌, None, IfOk};
+ghost use Rattle.tf_core.specs.Sound as typed;
 ghost use Rattle.tf_core.specs.Sound.{IsSoundNormal};
 ghost use Rattle.tf_check.specs.Writable.{HasWritableNames};
 ghost use Rattle.tf_nnf.specs.NormalForm.{normal_of};
@@ -9,10 +10,11 @@ ghost use Rattle.fof_models.specs.Models.{AreModel};
 ghost use Rattle.fof_models.specs.Structures.{IsWellFormed};
 ghost use Rattle.fof_text.specs.States.{AreNamed};
 ghost use Rattle.enc_marks.specs.Encoded.{encoded};
-ghost use Rattle.enc_marks.specs.Schemes.{args, choices_of, tags};
+ghost use Rattle.enc_marks.specs.Schemes.{args, choices_of};
 ghost use Rattle.enc_marks.specs.Laws.{IsByType};
 
-use crate::choices::{Args, Tags};
+use crate::call::Call;
+use crate::choices::Args;
 use crate::given::{normal_of, problem_of};
 use crate::refusals::{no_model, not_built, unencoded, untabled};
 use crate::stop::Stop;
@@ -28,17 +30,6 @@ use tf_core::{Normal, Problem};
 pub struct Encoding {
     pub encoded: Encoded,
     pub names: Names,
-}
-
-// a tag at each term, and no guards
-fn tagged_by(alloc: Global, normal: &Normal) -> Result<Encoded, Stop>
-    requires sound { IsSoundNormal normal.now }
-    ensures exact { IfOk result (λ made. made ≡ encoded tags normal.now) }
-{
-    match encode(alloc, &Tags, normal) {
-        Ok(made) => Ok(made),
-        Err(_) => Err(Stop::Memory),
-    }
 }
 
 // neither tags nor guards
@@ -64,7 +55,18 @@ pub fn encoded_by(alloc: Global, which: &Scheme, normal: &Normal) -> Result<Enco
             Ok(made) => Ok(made),
             Err(reason) => Err(unencoded(alloc, &reason)),
         },
-        Scheme::Tags => tagged_by(alloc, normal),
+        Scheme::Tags => match enc_tags::encode(alloc, Scheme::Tags, normal) {
+            Ok(made) => Ok(made),
+            Err(reason) => Err(unencoded(alloc, &reason)),
+        },
+        Scheme::GuardsCover => match enc_cover::encode(alloc, Scheme::GuardsCover, normal) {
+            Ok(made) => Ok(made),
+            Err(reason) => Err(unencoded(alloc, &reason)),
+        },
+        Scheme::TagsCover => match enc_cover::encode(alloc, Scheme::TagsCover, normal) {
+            Ok(made) => Ok(made),
+            Err(reason) => Err(unencoded(alloc, &reason)),
+        },
         Scheme::Args => bare_by(alloc, normal),
         _ => Err(not_built(alloc)),
     }
@@ -120,8 +122,27 @@ pub fn encoding_of(alloc: Global, which: &Scheme, text: &[u8]) -> Result<Encodin
     ensures named { IfOk result (λ e. AreNamed e.names e.encoded.problem) }
 {
     let problem = problem_of(alloc, text)?;
-    let normal = normal_of(alloc, &problem)?;
-    encoding_by(alloc, which, &problem, &normal)
+    encoding_for(alloc, which, &problem)
+}
+
+fn encoding_for(alloc: Global, which: &Scheme, problem: &Problem) -> Result<Encoding, Stop>
+    requires sound { typed.IsSound problem.now }
+    requires named { HasWritableNames problem.now }
+    ensures sound { IfOk result (λ e. IsSound e.encoded.problem) }
+    ensures named { IfOk result (λ e. AreNamed e.names e.encoded.problem) }
+{
+    let normal = normal_of(alloc, problem)?;
+    encoding_by(alloc, which, problem, &normal)
+}
+
+/// The translation of the case's problem by the scheme that the arguments begin with. The call is
+/// left without it.
+pub fn encoding_in(call: &mut Call<'_>) -> Result<Encoding, Stop>
+    ensures sound { IfOk result (λ e. IsSound e.encoded.problem) }
+    ensures named { IfOk result (λ e. AreNamed e.names e.encoded.problem) }
+{
+    let which = call.scheme()?;
+    encoding_of(call.alloc, &which, call.texts.problem.as_slice())
 }
 
 /// The structure of an untyped table.

@@ -1,7 +1,10 @@
 //! Translations, their symbols, and names.
 
+ghost use Rattle.fof_models.specs.Sound.{IsSound};
+ghost use Rattle.fof_text.specs.States.{AreNamed};
+
 use crate::call::Call;
-use crate::encoding::encoding_of;
+use crate::encoding::{Encoding, encoding_of};
 use crate::instances::types_of;
 use crate::models::ROOM;
 use crate::out::Out;
@@ -9,8 +12,10 @@ use crate::put_tables::kind_word;
 use crate::stop::Stop;
 use enc_base::{List, MemorySink, Name};
 use enc_marks::{Mark, type_term};
-use fof_models::{FofSymbol, FofTerm};
+use fof_models::{FofProblem, FofSymbol, FofTerm};
 use fof_text::{Names, write_problem};
+use std::alloc::Global;
+use tf_core::Ty;
 
 /// Whether the call is one of this layer, which is then made.
 pub fn answer(name: &[u8], call: &mut Call<'_>, out: &mut Out) -> Result<bool, Stop> {
@@ -28,7 +33,14 @@ pub fn answer(name: &[u8], call: &mut Call<'_>, out: &mut Out) -> Result<bool, S
 fn encode(call: &mut Call<'_>, out: &mut Out) -> Result<(), Stop> {
     let which = call.scheme()?;
     let encoding = encoding_of(call.alloc, &which, call.text())?;
-    let mut sink = MemorySink::new(call.alloc, ROOM, List::new(call.alloc))?;
+    put_written(out, &encoding)
+}
+
+fn put_written(out: &mut Out, encoding: &Encoding) -> Result<(), Stop>
+    requires sound { IsSound encoding.now.encoded.problem }
+    requires named { AreNamed encoding.now.names encoding.now.encoded.problem }
+{
+    let mut sink = MemorySink::new(out.alloc, ROOM, List::new(out.alloc))?;
     if write_problem(&encoding.encoded.problem, &encoding.names, &mut sink).is_err() {
         return Err(Stop::Shape);
     }
@@ -39,12 +51,16 @@ fn encode(call: &mut Call<'_>, out: &mut Out) -> Result<(), Stop> {
 fn marks(call: &mut Call<'_>, out: &mut Out) -> Result<(), Stop> {
     let which = call.scheme()?;
     let encoding = encoding_of(call.alloc, &which, call.text())?;
+    put_marks(out, &encoding);
+    Ok(())
+}
+
+fn put_marks(out: &mut Out, encoding: &Encoding) {
     let symbols = encoding.encoded.problem.signature.as_slice().iter();
     let named = symbols.zip(encoding.names.as_slice().iter());
     for ((symbol, name), mark) in named.zip(encoding.encoded.marks.as_slice().iter()) {
         put_marked(out, symbol, name, mark);
     }
-    Ok(())
 }
 
 // a line for a symbol
@@ -82,7 +98,13 @@ fn put_numbered(out: &mut Out, word: &[u8], number: u32) {
 fn counts(call: &mut Call<'_>, out: &mut Out) -> Result<(), Stop> {
     let which = call.scheme()?;
     let encoding = encoding_of(call.alloc, &which, call.text())?;
-    let problem = &encoding.encoded.problem;
+    put_counts(out, &encoding.encoded.problem);
+    Ok(())
+}
+
+fn put_counts(out: &mut Out, problem: &FofProblem)
+    requires sound { IsSound problem.now }
+{
     out.begin();
     out.put(b"sound ");
     out.show(&problem.is_sound());
@@ -91,7 +113,6 @@ fn counts(call: &mut Call<'_>, out: &mut Out) -> Result<(), Stop> {
     out.put(b", formulas ");
     out.show(&problem.formulas.as_slice().len());
     out.end();
-    Ok(())
 }
 
 fn term_of_type(call: &mut Call<'_>, out: &mut Out) -> Result<(), Stop> {
@@ -100,12 +121,21 @@ fn term_of_type(call: &mut Call<'_>, out: &mut Out) -> Result<(), Stop> {
     let text = call.texts.problem.as_slice();
     let encoding = encoding_of(call.alloc, &which, text)?;
     let types = types_of(call.alloc, text, call.rest)?;
+    put_type_terms(out, &encoding, types.as_slice(), depth)
+}
+
+fn put_type_terms(
+    out: &mut Out,
+    encoding: &Encoding,
+    types: &[Ty],
+    depth: u32,
+) -> Result<(), Stop> {
     let marks = encoding.encoded.marks.as_slice();
     if marks.len() > u32::MAX as usize {
         return Err(Stop::Shape);
     }
-    for ty in types.as_slice() {
-        let term = type_term(call.alloc, ty, marks, depth)?;
+    for ty in types {
+        let term = type_term(out.alloc, ty, marks, depth)?;
         out.begin();
         put_term(out, &encoding.names, &term);
         out.end();
@@ -140,20 +170,30 @@ fn put_terms(out: &mut Out, names: &Names, terms: &[FofTerm]) {
 }
 
 fn names(call: &mut Call<'_>, out: &mut Out) -> Result<(), Stop> {
-    let mut wanted = Vec::new(call.alloc);
-    for word in call.rest.split(|byte| *byte == b' ') {
-        wanted.push(FofSymbol {
-            wanted: Name::from_slice(call.alloc, word)?,
+    let wanted = wanting(call.alloc, call.rest)?;
+    let names = Names::choose(call.alloc, wanted.as_slice())?;
+    put_names(out, names.as_slice());
+    Ok(())
+}
+
+// for each word a symbol that wants it for its name
+fn wanting(alloc: Global, words: &[u8]) -> Result<Vec<FofSymbol>, Stop> {
+    let mut symbols = Vec::new(alloc);
+    for word in words.split(|byte| *byte == b' ') {
+        symbols.push(FofSymbol {
+            wanted: Name::from_slice(alloc, word)?,
             arity: 0,
             predicate: false,
         })?;
     }
-    let names = Names::choose(call.alloc, wanted.as_slice())?;
+    Ok(symbols)
+}
+
+fn put_names(out: &mut Out, names: &[Name]) {
     out.begin();
-    for (i, name) in names.as_slice().iter().enumerate() {
+    for (i, name) in names.iter().enumerate() {
         out.put(if i == 0 { b"" } else { b" " });
         out.name(name);
     }
     out.end();
-    Ok(())
 }

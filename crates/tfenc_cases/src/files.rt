@@ -1,6 +1,8 @@
 //! From bytes to bytes.
 
 ghost use Rattle.std.specs.Prelude.{IfOk};
+ghost use Rattle.tf_core.specs.Sound.{IsSound};
+ghost use Rattle.enc_pipeline.specs.Distinct.{HasDistinctNames};
 ghost use Rattle.enc_pipeline.specs.Way.{IsInRange, IsBuilt};
 
 use crate::call::Call;
@@ -16,6 +18,7 @@ use enc_pipeline::{
     written_formulas,
 };
 use std::alloc::Global;
+use tf_core::Problem;
 
 /// Whether the call is one of this layer, which is then made.
 pub fn answer(name: &[u8], call: &mut Call<'_>, out: &mut Out) -> Result<bool, Stop> {
@@ -35,13 +38,19 @@ fn way_of(alloc: Global, which: &Scheme) -> Result<How, Stop>
     ensures built { IfOk result IsBuilt }
 {
     match which {
-        Scheme::Guards => Ok(How {
-            scheme: Scheme::Guards,
-            mono: false,
-            rounds: 3,
-            cap: 2000,
-        }),
+        Scheme::Guards => Ok(How::plain(Scheme::Guards)),
+        Scheme::Tags => Ok(How::plain(Scheme::Tags)),
+        Scheme::GuardsCover => Ok(How::plain(Scheme::GuardsCover)),
+        Scheme::TagsCover => Ok(How::plain(Scheme::TagsCover)),
         _ => Err(not_built(alloc)),
+    }
+}
+
+// what went well, or why not
+fn done<T: Drop>(alloc: Global, ended: Result<T, Fault>) -> Result<T, Stop> {
+    match ended {
+        Ok(value) => Ok(value),
+        Err(fault) => Err(stopped(alloc, &fault)),
     }
 }
 
@@ -49,55 +58,92 @@ fn way_of(alloc: Global, which: &Scheme) -> Result<How, Stop>
 fn prepared_by(alloc: Global, which: &Scheme, text: &[u8]) -> Result<Prepared, Stop> {
     let how = way_of(alloc, which)?;
     let problem = problem_of(alloc, text)?;
-    match prepare(alloc, problem, how) {
-        Ok(prepared) => Ok(prepared),
-        Err(fault) => Err(stopped(alloc, &fault)),
-    }
+    done(alloc, prepare(alloc, problem, how))
 }
 
-// what was written, or why nothing more is
-fn put_written(out: &mut Out, ended: Result<(), Fault>, sink: &MemorySink) -> Result<(), Stop> {
-    match ended {
-        Ok(()) => {
-            out.text(sink.written());
-            Ok(())
-        }
-        Err(fault) => Err(stopped(out.alloc, &fault)),
-    }
+// what is asked of a prepared problem
+#[derive(Drop)]
+enum Task {
+    Encode,
+    Lower,
+    Lift,
 }
 
 fn encode(call: &mut Call<'_>, out: &mut Out) -> Result<(), Stop> {
     let which = call.scheme()?;
-    let prepared = prepared_by(call.alloc, &which, call.text())?;
-    let mut sink = MemorySink::new(call.alloc, ROOM, List::new(call.alloc))?;
-    let ended = encode_file(&prepared, &mut sink);
-    out.told(b"formulas ", &written_formulas(&prepared));
-    match lifts(&prepared) {
-        Ok(()) => out.line(b"lifts"),
-        Err(fault) => return Err(stopped(call.alloc, &fault)),
-    }
-    put_written(out, ended, &sink)
-}
-
-fn check(call: &Call<'_>, out: &mut Out) -> Result<(), Stop> {
-    let problem = problem_of(call.alloc, call.texts.problem.as_slice())?;
-    let mut sink = MemorySink::new(call.alloc, ROOM, List::new(call.alloc))?;
-    let ended = check_file(call.alloc, &problem, call.typed(), &mut sink);
-    put_written(out, ended, &sink)
+    perform(call, out, &which, call.text(), Task::Encode)
 }
 
 fn lower(call: &mut Call<'_>, out: &mut Out) -> Result<(), Stop> {
     let which = call.scheme()?;
-    let prepared = prepared_by(call.alloc, &which, call.texts.problem.as_slice())?;
-    let mut sink = MemorySink::new(call.alloc, ROOM, List::new(call.alloc))?;
-    let ended = lower_file(call.alloc, &prepared, call.typed(), &mut sink);
-    put_written(out, ended, &sink)
+    let text = call.texts.problem.as_slice();
+    perform(call, out, &which, text, Task::Lower)
 }
 
 fn lift(call: &mut Call<'_>, out: &mut Out) -> Result<(), Stop> {
     let which = call.scheme()?;
-    let prepared = prepared_by(call.alloc, &which, call.texts.problem.as_slice())?;
-    let mut sink = MemorySink::new(call.alloc, ROOM, List::new(call.alloc))?;
-    let ended = lift_file(call.alloc, &prepared, call.untyped(), &mut sink);
-    put_written(out, ended, &sink)
+    let text = call.texts.problem.as_slice();
+    perform(call, out, &which, text, Task::Lift)
+}
+
+fn perform(
+    call: &Call<'_>,
+    out: &mut Out,
+    which: &Scheme,
+    text: &[u8],
+    task: Task,
+) -> Result<(), Stop> {
+    let prepared = prepared_by(call.alloc, which, text)?;
+    put_task(call, out, &prepared, task)
+}
+
+fn put_task(call: &Call<'_>, out: &mut Out, prepared: &Prepared, task: Task) -> Result<(), Stop> {
+    match task {
+        Task::Encode => put_encoded(out, prepared),
+        Task::Lower => put_lowered(out, prepared, call.typed()),
+        Task::Lift => put_lifted(out, prepared, call.untyped()),
+    }
+}
+
+fn put_encoded(out: &mut Out, prepared: &Prepared) -> Result<(), Stop> {
+    out.told(b"formulas ", &written_formulas(prepared));
+    done(out.alloc, lifts(prepared))?;
+    out.line(b"lifts");
+    put_text(out, prepared)
+}
+
+fn put_text(out: &mut Out, prepared: &Prepared) -> Result<(), Stop> {
+    let mut sink = MemorySink::new(out.alloc, ROOM, List::new(out.alloc))?;
+    done(out.alloc, encode_file(prepared, &mut sink))?;
+    out.text(sink.written());
+    Ok(())
+}
+
+fn check(call: &Call<'_>, out: &mut Out) -> Result<(), Stop> {
+    let problem = problem_of(call.alloc, call.texts.problem.as_slice())?;
+    put_checked(out, &problem, call.typed())
+}
+
+fn put_checked(out: &mut Out, problem: &Problem, table: &[u8]) -> Result<(), Stop>
+    requires sound { IsSound problem.now }
+    requires distinct { HasDistinctNames problem.now }
+{
+    let mut sink = MemorySink::new(out.alloc, ROOM, List::new(out.alloc))?;
+    done(out.alloc, check_file(out.alloc, problem, table, &mut sink))?;
+    out.text(sink.written());
+    Ok(())
+}
+
+fn put_lowered(out: &mut Out, prepared: &Prepared, table: &[u8]) -> Result<(), Stop> {
+    let mut sink = MemorySink::new(out.alloc, ROOM, List::new(out.alloc))?;
+    done(out.alloc, lower_file(out.alloc, prepared, table, &mut sink))?;
+    out.text(sink.written());
+    Ok(())
+}
+
+fn put_lifted(out: &mut Out, prepared: &Prepared, table: &[u8]) -> Result<(), Stop> {
+    let mut sink = MemorySink::new(out.alloc, ROOM, List::new(out.alloc))?;
+    done(out.alloc, lift_file(out.alloc, prepared, table, &mut sink))?;
+    out.text(sink.written());
+    Ok(())
 }

@@ -3,6 +3,7 @@
 
 mod answers;
 mod arguments;
+mod binders;
 mod bounds;
 mod call;
 mod carrying;

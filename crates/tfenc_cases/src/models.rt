@@ -2,13 +2,14 @@
 
 ghost use Rattle.std.specs.Prelude.{◌≡◌, ◌<◌, ◌^◌, length};
 ghost use Rattle.tf_core.specs.Sound.{IsSound};
-ghost use Rattle.tf_core.specs.TypedTables.{IsWellFormed};
+ghost use Rattle.tf_core.specs.TypedTables.{IsWellFormed, AreModel};
 ghost use Rattle.tf_check.specs.Writable.{HasWritableNames};
 ghost use Rattle.tf_models.specs.Reading.{tables};
+ghost use Rattle.tf_nnf.specs.NormalForm as specs;
 ghost use Rattle.tf_stamp.specs.Merged.{merged_size};
 ghost use Rattle.enc_pipeline.specs.Distinct.{HasDistinctNames};
 
-use crate::arguments::{lists, numbers};
+use crate::arguments::numbers;
 use crate::call::Call;
 use crate::given::{extension_of, first_false_of, model_of, normal_of, problem_of, structure_of};
 use crate::out::Out;
@@ -18,7 +19,7 @@ use crate::stop::Stop;
 use enc_base::{List, MemorySink};
 use model_tables::write_typed;
 use std::alloc::Global;
-use tf_core::Problem;
+use tf_core::{Normal, Problem};
 use tf_models::{TypedStructure, copy_table};
 use tf_nnf::from_normal;
 use tf_stamp::Stamped;
@@ -41,7 +42,14 @@ pub fn answer(name: &[u8], call: &mut Call<'_>, out: &mut Out) -> Result<bool, S
 
 fn table(call: &Call<'_>, out: &mut Out) -> Result<(), Stop> {
     let problem = problem_of(call.alloc, call.texts.problem.as_slice())?;
-    let structure = structure_of(call.alloc, &problem, call.typed())?;
+    put_table(out, &problem, call.typed())
+}
+
+fn put_table(out: &mut Out, problem: &Problem, table: &[u8]) -> Result<(), Stop>
+    requires sound { IsSound problem.now }
+    requires distinct { HasDistinctNames problem.now }
+{
+    let structure = structure_of(out.alloc, problem, table)?;
     put_typed(out, &problem.signature, &structure);
     Ok(())
 }
@@ -51,22 +59,32 @@ pub const ROOM: usize = 1_000_000;
 
 fn write_table(call: &Call<'_>, out: &mut Out) -> Result<(), Stop> {
     let problem = problem_of(call.alloc, call.texts.problem.as_slice())?;
-    let structure = structure_of(call.alloc, &problem, call.typed())?;
-    let sink = written(call.alloc, &problem, &structure)?;
-    out.text(sink.written());
-    Ok(())
+    put_rewritten(out, &problem, call.typed())
 }
 
-// the table of a structure
-fn written(alloc: Global, problem: &Problem, structure: &TypedStructure) -> Result<MemorySink, Stop>
+// the table that is written of the structure of a table
+fn put_rewritten(out: &mut Out, problem: &Problem, table: &[u8]) -> Result<(), Stop>
+    requires sound { IsSound problem.now }
+    requires named { HasWritableNames problem.now }
+    requires distinct { HasDistinctNames problem.now }
+{
+    let structure = structure_of(out.alloc, problem, table)?;
+    put_written(out, problem, &structure)
+}
+
+// the table that is written of a structure
+fn put_written(out: &mut Out, problem: &Problem, structure: &TypedStructure) -> Result<(), Stop>
     requires sound { IsSound problem.now }
     requires named { HasWritableNames problem.now }
     requires distinct { HasDistinctNames problem.now }
     requires well_formed { IsWellFormed problem.now.signature (tables structure.now) }
 {
-    let mut sink = MemorySink::new(alloc, ROOM, List::new(alloc))?;
+    let mut sink = MemorySink::new(out.alloc, ROOM, List::new(out.alloc))?;
     match write_typed(structure, &problem.signature, &mut sink) {
-        Ok(()) => Ok(sink),
+        Ok(()) => {
+            out.text(sink.written());
+            Ok(())
+        }
         Err(_) => Err(Stop::Shape),
     }
 }
@@ -82,31 +100,59 @@ fn structure_from(
         constructors: List::new(alloc),
         symbols: List::new(alloc),
     };
-    for (i, part) in lists(alloc, words)?.into_iter().enumerate() {
-        if i == 0 {
-            structure.sizes = part;
-        } else if i <= constructors {
-            structure.constructors.push(part)?;
-        } else {
-            structure.symbols.push(part)?;
-        }
+    for (i, part) in words.split(|byte| *byte == b';').enumerate() {
+        add_table(alloc, &mut structure, i, constructors, part)?;
     }
     Ok(structure)
 }
 
+// takes the list of this place as what stands there
+fn add_table(
+    alloc: Global,
+    structure: &mut TypedStructure,
+    place: usize,
+    constructors: usize,
+    words: &[u8],
+) -> Result<(), Stop> {
+    let table = numbers(alloc, words)?;
+    if place == 0 {
+        structure.sizes = table;
+    } else if place <= constructors {
+        structure.constructors.push(table)?;
+    } else {
+        structure.symbols.push(table)?;
+    }
+    Ok(())
+}
+
 fn well_formed(call: &Call<'_>, out: &mut Out) -> Result<(), Stop> {
     let problem = problem_of(call.alloc, call.texts.problem.as_slice())?;
-    let structure = if call.rest.is_empty() {
-        structure_of(call.alloc, &problem, call.typed())?
-    } else {
-        let constructors = problem.signature.constructors.as_slice().len();
-        structure_from(call.alloc, call.rest, constructors)?
-    };
+    put_well_formed(call, out, &problem)
+}
+
+fn put_well_formed(call: &Call<'_>, out: &mut Out, problem: &Problem) -> Result<(), Stop>
+    requires sound { IsSound problem.now }
+    requires distinct { HasDistinctNames problem.now }
+{
+    let structure = structure_in(call, problem)?;
     if structure.sizes.as_slice().len() > 1000 {
         return Err(Stop::Shape);
     }
     out.told(b"", &structure.well_formed(&problem.signature));
     Ok(())
+}
+
+// the structure of the lists on the line, or of the typed table
+fn structure_in(call: &Call<'_>, problem: &Problem) -> Result<TypedStructure, Stop>
+    requires sound { IsSound problem.now }
+    requires distinct { HasDistinctNames problem.now }
+{
+    if call.rest.is_empty() {
+        structure_of(call.alloc, problem, call.texts.typed.as_slice())
+    } else {
+        let constructors = problem.signature.constructors.as_slice().len();
+        structure_from(call.alloc, call.rest, constructors)
+    }
 }
 
 /// The number of a formula, or that there is none.
@@ -119,29 +165,63 @@ pub fn put_first(out: &mut Out, first: Option<usize>) {
 
 fn first_false(call: &Call<'_>, out: &mut Out) -> Result<(), Stop> {
     let problem = problem_of(call.alloc, call.texts.problem.as_slice())?;
-    let structure = structure_of(call.alloc, &problem, call.typed())?;
-    let first = first_false_of(call.alloc, &problem, &structure)?;
-    put_first(out, first);
+    put_first(out, first_in(call.alloc, &problem, call.typed())?);
     Ok(())
 }
 
+// the first formula that is not as stated in the structure of a table
+fn first_in(alloc: Global, problem: &Problem, table: &[u8]) -> Result<Option<usize>, Stop>
+    requires sound { IsSound problem.now }
+    requires distinct { HasDistinctNames problem.now }
+{
+    let structure = structure_of(alloc, problem, table)?;
+    first_false_of(alloc, problem, &structure)
+}
+
 fn truth(call: &Call<'_>, out: &mut Out) -> Result<(), Stop> {
-    let mut text = call.texts.problem.as_slice().to_vec(call.alloc)?;
-    text.extend_from_slice(b"tff(truth,axiom,")?;
-    text.extend_from_slice(call.rest)?;
-    text.extend_from_slice(b").")?;
+    let text = stating(call.alloc, call.texts.problem.as_slice(), call.rest)?;
     let problem = problem_of(call.alloc, text.as_slice())?;
-    let structure = structure_of(call.alloc, &problem, call.texts.typed.as_slice())?;
-    let first = first_false_of(call.alloc, &problem, &structure)?;
+    let first = first_in(call.alloc, &problem, call.texts.typed.as_slice())?;
     out.told(b"", &first.is_none());
     Ok(())
+}
+
+// the text, and behind it a formula that is stated
+fn stating(alloc: Global, text: &[u8], formula: &[u8]) -> Result<Vec<u8>, Stop> {
+    let mut stated = text.to_vec(alloc)?;
+    stated.extend_from_slice(b"tff(truth,axiom,")?;
+    stated.extend_from_slice(formula)?;
+    stated.extend_from_slice(b").")?;
+    Ok(stated)
 }
 
 fn extended(call: &Call<'_>, out: &mut Out) -> Result<(), Stop> {
     let problem = problem_of(call.alloc, call.texts.problem.as_slice())?;
     let model = model_of(call.alloc, &problem, call.typed())?;
-    let normal = normal_of(call.alloc, &problem)?;
-    let extension = extension_of(call.alloc, &problem, &normal, &model)?;
+    put_extended(out, &problem, &model)
+}
+
+fn put_extended(out: &mut Out, problem: &Problem, model: &TypedStructure) -> Result<(), Stop>
+    requires sound { IsSound problem.now }
+    requires model { AreModel problem.now (tables model.now) }
+    requires few { length model.now.sizes < 2 ^ 32 }
+{
+    let normal = normal_of(out.alloc, problem)?;
+    put_extension(out, problem, &normal, model)
+}
+
+fn put_extension(
+    out: &mut Out,
+    problem: &Problem,
+    normal: &Normal,
+    model: &TypedStructure,
+) -> Result<(), Stop>
+    requires sound { IsSound problem.now }
+    requires normal { normal.now ≡ specs.normal_of problem.now }
+    requires model { AreModel problem.now (tables model.now) }
+    requires few { length model.now.sizes < 2 ^ 32 }
+{
+    let extension = extension_of(out.alloc, problem, normal, model)?;
     put_typed(out, &normal.signature, &extension);
     Ok(())
 }
@@ -149,35 +229,74 @@ fn extended(call: &Call<'_>, out: &mut Out) -> Result<(), Stop> {
 fn reduced(call: &Call<'_>, out: &mut Out) -> Result<(), Stop> {
     let problem = problem_of(call.alloc, call.texts.problem.as_slice())?;
     let model = model_of(call.alloc, &problem, call.typed())?;
-    let normal = normal_of(call.alloc, &problem)?;
-    let extension = extension_of(call.alloc, &problem, &normal, &model)?;
-    let reduct = from_normal(&normal, extension);
+    put_reduced(out, &problem, &model)
+}
+
+fn put_reduced(out: &mut Out, problem: &Problem, model: &TypedStructure) -> Result<(), Stop>
+    requires sound { IsSound problem.now }
+    requires model { AreModel problem.now (tables model.now) }
+    requires few { length model.now.sizes < 2 ^ 32 }
+{
+    let reduct = reduct_of(out.alloc, problem, model)?;
     put_typed(out, &problem.signature, &reduct);
-    out.told(b"same ", &reduct.same(&model));
+    out.told(b"same ", &reduct.same(model));
     Ok(())
 }
 
+// the structure that comes back of the model that the normal problem gets
+fn reduct_of(
+    alloc: Global,
+    problem: &Problem,
+    model: &TypedStructure,
+) -> Result<TypedStructure, Stop>
+    requires sound { IsSound problem.now }
+    requires model { AreModel problem.now (tables model.now) }
+    requires few { length model.now.sizes < 2 ^ 32 }
+{
+    let normal = normal_of(alloc, problem)?;
+    let extension = extension_of(alloc, problem, &normal, model)?;
+    Ok(from_normal(&normal, extension))
+}
+
 fn stamp(call: &Call<'_>, out: &mut Out) -> Result<(), Stop> {
-    let sizes = if call.rest.is_empty() {
-        let problem = problem_of(call.alloc, call.texts.problem.as_slice())?;
-        structure_of(call.alloc, &problem, call.texts.typed.as_slice())?.sizes
-    } else {
-        numbers(call.alloc, call.rest)?
-    };
     let members = TypedStructure {
-        sizes: copy_table(call.alloc, sizes.as_slice())?,
+        sizes: sizes_in(call)?,
         constructors: List::new(call.alloc),
         symbols: List::new(call.alloc),
     };
     if members.sizes.as_slice().len() > 1000 {
         return Err(Stop::Shape);
     }
-    match Stamped::new(call.alloc, &members) {
+    put_members(out, &members)
+}
+
+// the sizes on the line, or those of the typed table
+fn sizes_in(call: &Call<'_>) -> Result<List<u32>, Stop> {
+    if !call.rest.is_empty() {
+        return numbers(call.alloc, call.rest);
+    }
+    let problem = problem_of(call.alloc, call.texts.problem.as_slice())?;
+    sizes_of(call.alloc, &problem, call.texts.typed.as_slice())
+}
+
+fn sizes_of(alloc: Global, problem: &Problem, table: &[u8]) -> Result<List<u32>, Stop>
+    requires sound { IsSound problem.now }
+    requires distinct { HasDistinctNames problem.now }
+{
+    let structure = structure_of(alloc, problem, table)?;
+    Ok(copy_table(alloc, structure.sizes.as_slice())?)
+}
+
+// the merged domain of these members
+fn put_members(out: &mut Out, members: &TypedStructure) -> Result<(), Stop>
+    requires few { length members.now.sizes < 2 ^ 32 }
+{
+    match Stamped::new(out.alloc, members) {
         Ok(stamped) => {
-            put_stamped(out, &stamped, sizes.as_slice());
+            put_stamped(out, &stamped, members.sizes.as_slice());
             Ok(())
         }
-        Err(reason) => Err(unstamped(call.alloc, &reason)),
+        Err(reason) => Err(unstamped(out.alloc, &reason)),
     }
 }
 

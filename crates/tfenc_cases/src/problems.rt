@@ -1,5 +1,7 @@
 //! Problems, normal problems, and parts of them on other signatures.
 
+ghost use Rattle.tf_core.specs.Sound.{IsSound, IsSoundNormal};
+
 use crate::call::Call;
 use crate::given::{normal_of, problem_of};
 use crate::out::Out;
@@ -7,7 +9,8 @@ use crate::put_problem::{put_normal, put_problem};
 use crate::stop::Stop;
 use std::fmt::Display;
 use tf_core::{
-    Nnf, Normal, Problem, Signature, Term, copy_normal_formulas, copy_stated, copy_symbols,
+    Nnf, Normal, Problem, Signature, Term, copy_constructors, copy_normal_formulas, copy_stated,
+    copy_symbols,
 };
 
 /// Whether the call is one of this layer, which is then made.
@@ -54,21 +57,40 @@ fn put_fact(out: &mut Out, words: &[u8], value: &impl Display) {
 
 fn counts(call: &Call<'_>, out: &mut Out) -> Result<(), Stop> {
     let problem = problem_of(call.alloc, call.text())?;
-    let normal = normal_of(call.alloc, &problem)?;
-    let typed = problem.check(call.alloc)?;
-    let normal_typed = normal.check(call.alloc)?;
+    count(out, &problem)
+}
+
+fn count(out: &mut Out, problem: &Problem) -> Result<(), Stop>
+    requires sound { IsSound problem.now }
+{
+    let normal = normal_of(out.alloc, problem)?;
+    put_counts(out, problem)?;
+    put_normal_counts(out, &normal)
+}
+
+fn put_counts(out: &mut Out, problem: &Problem) -> Result<(), Stop>
+    requires sound { IsSound problem.now }
+{
+    let typed = problem.check(out.alloc)?;
     out.begin();
     put_fact(out, b"problem: well typed ", &typed);
     put_fact(out, b", most types ", &problem.most_types());
     put_fact(out, b", most terms ", &problem.most_terms());
     out.end();
+    Ok(())
+}
+
+fn put_normal_counts(out: &mut Out, normal: &Normal) -> Result<(), Stop>
+    requires sound { IsSoundNormal normal.now }
+{
+    let typed = normal.check(out.alloc)?;
     out.begin();
-    put_fact(out, b"normal: well typed ", &normal_typed);
+    put_fact(out, b"normal: well typed ", &typed);
     put_fact(out, b", most types ", &normal.most_types());
     put_fact(out, b", most terms ", &normal.most_terms());
     put_fact(out, b", monomorphic ", &normal.is_monomorphic());
     put_fact(out, b", fresh ", &normal.fresh);
-    put_fact(out, b", nodes ", &nodes(&normal));
+    put_fact(out, b", nodes ", &nodes(normal));
     out.end();
     Ok(())
 }
@@ -132,26 +154,46 @@ fn normal(call: &Call<'_>, out: &mut Out) -> Result<(), Stop> {
 
 // symbols on other constructors, and formulas on another signature
 fn graft(call: &Call<'_>, out: &mut Out) -> Result<(), Stop> {
-    let alloc = call.alloc;
-    let problem = problem_of(alloc, call.texts.problem.as_slice())?;
-    let other = problem_of(alloc, call.texts.other.as_slice())?;
-    let normal = normal_of(alloc, &problem)?;
-    let other_normal = normal_of(alloc, &other)?;
-    let signature = Signature {
-        constructors: tf_core::copy_constructors(alloc, other.signature.constructors.as_slice())?,
-        symbols: copy_symbols(alloc, problem.signature.symbols.as_slice())?,
+    let problem = problem_of(call.alloc, call.texts.problem.as_slice())?;
+    let other = problem_of(call.alloc, call.texts.other.as_slice())?;
+    graft_on(out, &problem, &other)
+}
+
+fn graft_on(out: &mut Out, problem: &Problem, other: &Problem) -> Result<(), Stop>
+    requires sound { IsSound problem.now }
+    requires other_sound { IsSound other.now }
+{
+    let normal = normal_of(out.alloc, problem)?;
+    let other_normal = normal_of(out.alloc, other)?;
+    graft_signature(out, &problem.signature, &other.signature)?;
+    graft_problem(out, problem, &other.signature)?;
+    graft_normal(out, &normal, &other_normal)
+}
+
+fn graft_signature(out: &mut Out, signature: &Signature, other: &Signature) -> Result<(), Stop> {
+    let grafted = Signature {
+        constructors: copy_constructors(out.alloc, other.constructors.as_slice())?,
+        symbols: copy_symbols(out.alloc, signature.symbols.as_slice())?,
     };
-    out.told(b"signature ", &signature.check());
+    out.told(b"signature ", &grafted.check());
+    Ok(())
+}
+
+fn graft_problem(out: &mut Out, problem: &Problem, other: &Signature) -> Result<(), Stop> {
     let grafted = Problem {
-        signature: other.signature,
-        formulas: copy_stated(alloc, problem.formulas.as_slice())?,
+        signature: other.copy(out.alloc)?,
+        formulas: copy_stated(out.alloc, problem.formulas.as_slice())?,
     };
-    out.told(b"problem ", &grafted.check(alloc)?);
+    out.told(b"problem ", &grafted.check(out.alloc)?);
+    Ok(())
+}
+
+fn graft_normal(out: &mut Out, normal: &Normal, other: &Normal) -> Result<(), Stop> {
     let grafted = Normal {
-        signature: other_normal.signature,
-        formulas: copy_normal_formulas(alloc, normal.formulas.as_slice())?,
-        fresh: other_normal.fresh,
+        signature: other.signature.copy(out.alloc)?,
+        formulas: copy_normal_formulas(out.alloc, normal.formulas.as_slice())?,
+        fresh: other.fresh,
     };
-    out.told(b"normal ", &grafted.check(alloc)?);
+    out.told(b"normal ", &grafted.check(out.alloc)?);
     Ok(())
 }

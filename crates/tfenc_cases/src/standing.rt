@@ -1,23 +1,32 @@
 //! Which argument places are covers, and how the variables of binders stand.
 
 ghost use Rattle.std.specs.Prelude.{◌≡◌, map};
+ghost use Rattle.tf_core.specs.Sound.{IsSound, IsSoundNormal};
 ghost use Rattle.tf_naked.specs.Covers.{covers};
 
+use crate::binders::binders_at;
 use crate::call::Call;
 use crate::given::{normal_of, problem_of};
 use crate::out::Out;
 use crate::stop::Stop;
 use enc_base::List;
+use enc_cover::{cover_of, is_undercover};
 use std::alloc::Global;
-use tf_core::Normal;
+use tf_core::{Normal, Problem, Symbol};
 use tf_naked::{Binder, covers_of_symbols, kept_of_symbol, universal_binders};
 
 /// Whether the call is one of this layer, which is then made.
 pub fn answer(name: &[u8], call: &mut Call<'_>, out: &mut Out) -> Result<bool, Stop> {
-    match name {
-        b"covers" => cover_places(call, out)?,
-        b"binders" => binders(call, out)?,
-        _ => return Ok(false),
+    if name == b"covers".as_slice() {
+        cover_places(call, out)?;
+    } else if name == b"cover_of".as_slice() {
+        covers_of_parameters(call, out)?;
+    } else if name == b"binders".as_slice() {
+        binders(call, out)?;
+    } else if name == b"is_undercover".as_slice() {
+        undercover(call, out)?;
+    } else {
+        return Ok(false);
     }
     Ok(true)
 }
@@ -46,22 +55,67 @@ fn cover_places(call: &Call<'_>, out: &mut Out) -> Result<(), Stop> {
 fn put_flags(out: &mut Out, words: &[u8], flags: &[bool]) {
     out.put(words);
     for flag in flags {
-        out.put(if *flag { b" yes" } else { b" no" });
+        put_flag(out, *flag);
     }
     if flags.is_empty() {
         out.put(b" -");
     }
 }
 
+fn put_flag(out: &mut Out, flag: bool) {
+    out.put(if flag { b" yes" } else { b" no" });
+}
+
+// of each symbol the cover of each of its parameters
+fn covers_of_parameters(call: &Call<'_>, out: &mut Out) -> Result<(), Stop> {
+    let problem = problem_of(call.alloc, call.text())?;
+    for symbol in problem.signature.symbols.as_slice() {
+        put_covers(out, symbol)?;
+    }
+    Ok(())
+}
+
+fn put_covers(out: &mut Out, symbol: &Symbol) -> Result<(), Stop> {
+    if symbol.arguments.as_slice().len() >= 1 << 28 {
+        return Err(Stop::Shape);
+    }
+    out.begin();
+    out.name(&symbol.name);
+    out.put(if symbol.parameters > 0 { b":" } else { b": -" });
+    for parameter in 0..symbol.parameters {
+        put_cover(out, cover_of(symbol, parameter));
+    }
+    out.end();
+    Ok(())
+}
+
+fn put_cover(out: &mut Out, cover: Option<u32>) {
+    out.put(b" ");
+    match cover {
+        Some(place) => out.show(&place),
+        None => out.put(b"none"),
+    }
+}
+
 // of each formula how the variables of its universal binders stand
 fn binders(call: &Call<'_>, out: &mut Out) -> Result<(), Stop> {
     let problem = problem_of(call.alloc, call.text())?;
-    let normal = normal_of(call.alloc, &problem)?;
+    put_normal(out, &problem)
+}
+
+fn put_normal(out: &mut Out, problem: &Problem) -> Result<(), Stop>
+    requires sound { IsSound problem.now }
+{
+    let normal = normal_of(out.alloc, problem)?;
+    put_rows(out, &normal)
+}
+
+fn put_rows(out: &mut Out, normal: &Normal) -> Result<(), Stop> {
     if !normal.signature.check() {
         return Err(Stop::Shape);
     }
-    let rows = covers_of_symbols(call.alloc, &normal.signature)?;
-    put_formulas(call.alloc, &normal, rows.as_slice(), out)
+    let rows = covers_of_symbols(out.alloc, &normal.signature)?;
+    put_formulas(out.alloc, normal, rows.as_slice(), out)
 }
 
 fn put_formulas(
@@ -101,5 +155,40 @@ fn word_of(binder: &Binder) -> &'static [u8] {
         b"undercover"
     } else {
         b"open"
+    }
+}
+
+// of each formula whether the variables of its binders are undercover
+fn undercover(call: &Call<'_>, out: &mut Out) -> Result<(), Stop> {
+    let problem = problem_of(call.alloc, call.text())?;
+    put_undercover(out, &problem)
+}
+
+fn put_undercover(out: &mut Out, problem: &Problem) -> Result<(), Stop>
+    requires sound { IsSound problem.now }
+{
+    let normal = normal_of(out.alloc, problem)?;
+    put_undercover_rows(out, &normal);
+    Ok(())
+}
+
+fn put_undercover_rows(out: &mut Out, normal: &Normal)
+    requires sound { IsSoundNormal normal.now }
+{
+    for (i, formula) in normal.formulas.as_slice().iter().enumerate() {
+        out.begin();
+        out.name(&formula.name);
+        put_undercover_at(out, normal, i);
+        out.end();
+    }
+}
+
+fn put_undercover_at(out: &mut Out, normal: &Normal, formula: usize)
+    requires sound { IsSoundNormal normal.now }
+{
+    let count = binders_at(normal, formula);
+    out.put(if count > 0 { b":" } else { b": -" });
+    for binder in 0..count {
+        put_flag(out, is_undercover(normal, formula, binder));
     }
 }

@@ -1,11 +1,12 @@
 //! Untyped structures.
 
+ghost use Rattle.fof_models.specs.Sound.{IsSound};
 ghost use Rattle.fof_models.specs.Structures.{IsWellFormed};
 ghost use Rattle.fof_text.specs.States.{AreNamed};
 
-use crate::arguments::lists;
+use crate::arguments::numbers;
 use crate::call::Call;
-use crate::encoding::{Encoding, encoding_of, first_false_in, untyped_of};
+use crate::encoding::{Encoding, encoding_in, first_false_in, untyped_of};
 use crate::models::{ROOM, put_first};
 use crate::out::Out;
 use crate::put_tables::put_untyped;
@@ -29,32 +30,44 @@ pub fn answer(name: &[u8], call: &mut Call<'_>, out: &mut Out) -> Result<bool, S
 }
 
 fn table(call: &mut Call<'_>, out: &mut Out) -> Result<(), Stop> {
-    let which = call.scheme()?;
-    let encoding = encoding_of(call.alloc, &which, call.texts.problem.as_slice())?;
-    let structure = untyped_of(call.alloc, &encoding, call.untyped())?;
+    let encoding = encoding_in(call)?;
+    put_table(out, &encoding, call.untyped())
+}
+
+fn put_table(out: &mut Out, encoding: &Encoding, table: &[u8]) -> Result<(), Stop>
+    requires named { AreNamed encoding.now.names encoding.now.encoded.problem }
+{
+    let structure = untyped_of(out.alloc, encoding, table)?;
     let signature = encoding.encoded.problem.signature.as_slice();
     put_untyped(out, signature, &encoding.names, &structure);
     Ok(())
 }
 
 fn write(call: &mut Call<'_>, out: &mut Out) -> Result<(), Stop> {
-    let which = call.scheme()?;
-    let encoding = encoding_of(call.alloc, &which, call.texts.problem.as_slice())?;
-    let structure = untyped_of(call.alloc, &encoding, call.untyped())?;
-    let sink = written(call.alloc, &encoding, &structure)?;
-    out.text(sink.written());
-    Ok(())
+    let encoding = encoding_in(call)?;
+    put_rewritten(out, &encoding, call.untyped())
 }
 
-// the table of a structure
-fn written(alloc: Global, encoding: &Encoding, structure: &Structure) -> Result<MemorySink, Stop>
+// the table that is written of the structure of a table
+fn put_rewritten(out: &mut Out, encoding: &Encoding, table: &[u8]) -> Result<(), Stop>
+    requires named { AreNamed encoding.now.names encoding.now.encoded.problem }
+{
+    let structure = untyped_of(out.alloc, encoding, table)?;
+    put_written(out, encoding, &structure)
+}
+
+// the table that is written of a structure
+fn put_written(out: &mut Out, encoding: &Encoding, structure: &Structure) -> Result<(), Stop>
     requires named { AreNamed encoding.now.names encoding.now.encoded.problem }
     requires well_formed { IsWellFormed encoding.now.encoded.problem.signature structure.now }
 {
     let problem = &encoding.encoded.problem;
-    let mut sink = MemorySink::new(alloc, ROOM, List::new(alloc))?;
+    let mut sink = MemorySink::new(out.alloc, ROOM, List::new(out.alloc))?;
     match write_untyped(structure, problem, &encoding.names, &mut sink) {
-        Ok(()) => Ok(sink),
+        Ok(()) => {
+            out.text(sink.written());
+            Ok(())
+        }
         Err(_) => Err(Stop::Shape),
     }
 }
@@ -65,45 +78,82 @@ fn structure_from(alloc: Global, words: &[u8]) -> Result<Structure, Stop> {
         size: 0,
         tables: List::new(alloc),
     };
-    for (i, part) in lists(alloc, words)?.into_iter().enumerate() {
-        if i == 0 {
-            structure.size = match part.as_slice() {
-                [size] => *size,
-                _ => return Err(Stop::Shape),
-            };
-        } else {
-            structure.tables.push(part)?;
-        }
+    for (i, part) in words.split(|byte| *byte == b';').enumerate() {
+        add_table(alloc, &mut structure, i, part)?;
     }
     Ok(structure)
 }
 
+// takes the list of this place as what stands there
+fn add_table(
+    alloc: Global,
+    structure: &mut Structure,
+    place: usize,
+    words: &[u8],
+) -> Result<(), Stop> {
+    let table = numbers(alloc, words)?;
+    if place > 0 {
+        structure.tables.push(table)?;
+        return Ok(());
+    }
+    match table.as_slice() {
+        [size] => {
+            structure.size = *size;
+            Ok(())
+        }
+        _ => Err(Stop::Shape),
+    }
+}
+
 fn well_formed(call: &mut Call<'_>, out: &mut Out) -> Result<(), Stop> {
-    let which = call.scheme()?;
-    let encoding = encoding_of(call.alloc, &which, call.texts.problem.as_slice())?;
-    let structure = if call.rest.is_empty() {
-        untyped_of(call.alloc, &encoding, call.untyped())?
-    } else {
-        structure_from(call.alloc, call.rest)?
-    };
+    let encoding = encoding_in(call)?;
+    put_well_formed(call, out, &encoding)
+}
+
+fn put_well_formed(call: &Call<'_>, out: &mut Out, encoding: &Encoding) -> Result<(), Stop>
+    requires named { AreNamed encoding.now.names encoding.now.encoded.problem }
+{
+    let structure = structure_in(call, encoding)?;
     let signature = encoding.encoded.problem.signature.as_slice();
     out.told(b"", &structure.well_formed(signature));
     Ok(())
 }
 
+// the structure of the lists on the line, or of the untyped table
+fn structure_in(call: &Call<'_>, encoding: &Encoding) -> Result<Structure, Stop>
+    requires named { AreNamed encoding.now.names encoding.now.encoded.problem }
+{
+    if call.rest.is_empty() {
+        untyped_of(call.alloc, encoding, call.texts.untyped.as_slice())
+    } else {
+        structure_from(call.alloc, call.rest)
+    }
+}
+
 fn first_false(call: &mut Call<'_>, out: &mut Out) -> Result<(), Stop> {
-    let which = call.scheme()?;
-    let encoding = encoding_of(call.alloc, &which, call.texts.problem.as_slice())?;
-    let structure = untyped_of(call.alloc, &encoding, call.untyped())?;
-    let first = first_false_in(call.alloc, &encoding.encoded.problem, &structure)?;
+    let encoding = encoding_in(call)?;
+    put_first_false(out, &encoding, call.untyped())
+}
+
+fn put_first_false(out: &mut Out, encoding: &Encoding, table: &[u8]) -> Result<(), Stop>
+    requires sound { IsSound encoding.now.encoded.problem }
+    requires named { AreNamed encoding.now.names encoding.now.encoded.problem }
+{
+    let structure = untyped_of(out.alloc, encoding, table)?;
+    let first = first_false_in(out.alloc, &encoding.encoded.problem, &structure)?;
     put_first(out, first);
     Ok(())
 }
 
 fn truths(call: &mut Call<'_>, out: &mut Out) -> Result<(), Stop> {
-    let which = call.scheme()?;
-    let encoding = encoding_of(call.alloc, &which, call.texts.problem.as_slice())?;
-    let structure = untyped_of(call.alloc, &encoding, call.untyped())?;
+    let encoding = encoding_in(call)?;
+    put_truths(out, &encoding, call.untyped())
+}
+
+fn put_truths(out: &mut Out, encoding: &Encoding, table: &[u8]) -> Result<(), Stop>
+    requires named { AreNamed encoding.now.names encoding.now.encoded.problem }
+{
+    let structure = untyped_of(out.alloc, encoding, table)?;
     let problem = &encoding.encoded.problem;
     for formula in problem.formulas.as_slice() {
         put_truth(out, problem, formula, &structure)?;
@@ -118,11 +168,9 @@ fn put_truth(
     formula: &FofFormula,
     structure: &Structure,
 ) -> Result<(), Stop> {
-    let mut formulas = List::new(out.alloc);
-    formulas.push(formula.copy(out.alloc)?)?;
     let alone = FofProblem {
         signature: copy_symbols(out.alloc, problem.signature.as_slice())?,
-        formulas,
+        formulas: only(out.alloc, formula)?,
     };
     if !alone.is_sound() || !structure.well_formed(alone.signature.as_slice()) {
         return Err(Stop::Shape);
@@ -134,4 +182,11 @@ fn put_truth(
     out.show(&first.is_none());
     out.end();
     Ok(())
+}
+
+// a list of one formula
+fn only(alloc: Global, formula: &FofFormula) -> Result<List<FofFormula>, Stop> {
+    let mut formulas = List::new(alloc);
+    formulas.push(formula.copy(alloc)?)?;
+    Ok(formulas)
 }

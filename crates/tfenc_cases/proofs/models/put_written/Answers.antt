@@ -2,7 +2,7 @@ use Rattle.tf_check.proofs.VisitedNames.{all-map}
 use Rattle.tf_core.specs.declared.signature.Constructor.{Constructor}
 use Rattle.tf_core.specs.declared.signature.Symbol.{Symbol}
 use Rattle.enc_base.specs.Names.{IsWritable}
-use Rattle.tfenc_cases.proofs.models.written.Goals as goal
+use Rattle.tfenc_cases.proofs.models.put_written.Goals as goal
 
 pub write_typed-requires-clause-named : goal.write_typed-requires-clause-named
 write_typed-requires-clause-named c = record {

@@ -1,4 +1,4 @@
-use Rattle.tfenc_cases.proofs.untyped.written.Goals as goal
+use Rattle.tfenc_cases.proofs.untyped.put_written.Goals as goal
 
 pub write_untyped-requires-clause-named : goal.write_untyped-requires-clause-named
 write_untyped-requires-clause-named c = record {
