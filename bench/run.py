@@ -1,5 +1,6 @@
 #!/usr/bin/env python3
-"""Measures the built program: bench/run.py [reading|typing|encoding|guards|tables|models|hostile ..] [--most BYTES]
+"""Measures the built program: bench/run.py [reading|typing|encoding|guards|schemes|tables|models|hostile ..]
+[--most BYTES]
 
 Each text of a family is made at doubling sizes. For each the table gives the time per byte of input, the peak memory per
 byte, and the ratio to the time of `wc -w` on the same file, the least of three runs in one sitting. A text ends in an
@@ -10,6 +11,7 @@ entry that is refused at the stage behind the one that is measured, so that only
   guards     the typed lists are encoded by guards: the time is that per byte of output; where the peer why3 is installed
              its processor time for the same file by guards is told too, as a multiple, and where strace is, how many
              calls of the system write the output
+  schemes    the typed lists are encoded by each scheme that is built: the time is that per byte of output
   tables     a table with as many entries as there may be is checked
   models     models of the list problem are lowered, and what is written is lifted: the time is that per entry of the
              lowered table
@@ -100,6 +102,7 @@ ENDS = {'reading': BAD_WORD, 'typing': TWO_CONJECTURES, 'encoding': ''}
 STATUSES = {'reading': 1, 'typing': 1, 'encoding': 0}
 MEMORY = {'reading': 64, 'typing': None, 'encoding': 200}
 MOST_OF_WC = {'reading': 25}
+SCHEMES = ['guards', 'tags', 'guards_cover', 'tags_cover']
 
 
 def measured(words, output=os.devnull):
@@ -185,6 +188,31 @@ def guards(options, base, missed):
         missed.append(f'guards: {max(times) / min(times):.1f} times the least time per byte of output')
 
 
+def schemes(missed):
+    """The typed lists by each scheme that is built, at three numbers of types."""
+    print(f'{"schemes":9} {"scheme":12} {"types":>10} {"output":>10} {"ns/byte":>9}')
+    least = {}
+    for scheme in SCHEMES:
+        times = []
+        for types in (500, 2000, 8000):
+            with tempfile.TemporaryDirectory() as folder:
+                file, output = os.path.join(folder, 'p.p'), os.path.join(folder, 'out')
+                with open(file, 'w') as out:
+                    out.write(typed_lists(MOST, types))
+                seconds, _, status = best([TFENC, 'encode', file, '--scheme', scheme], output)
+                written = os.path.getsize(output)
+            times.append(seconds / max(1, written))
+            print(f'{"schemes":9} {scheme:12} {types:10} {written:10} {times[-1] * 1e9:9.1f}')
+            sys.stdout.flush()
+            if status != 0:
+                missed.append(f'schemes {scheme} {types}: status {status}')
+        least[scheme] = min(times)
+        if max(times) > 2 * min(times):
+            missed.append(f'schemes {scheme}: {max(times) / min(times):.1f} times the least time per byte of output')
+        if least[scheme] > 2 * least['guards']:
+            missed.append(f'schemes {scheme}: {least[scheme] / least["guards"]:.1f} times the time of guards per byte of output')
+
+
 def greatest_table(base, missed):
     """The table with as many entries as there may be is checked for the empty problem."""
     with tempfile.TemporaryDirectory() as folder:
@@ -242,9 +270,12 @@ def main():
     measured([LAUNCHER])
     base = measured([TFENC])[1]
     print(f'{"stage":9} {"family":12} {"bytes":>10} {"ns/byte":>9} {"memory/byte":>12} {"times wc -w":>12}')
-    for stage in options.stages or ['hostile', *FAMILIES, 'guards', 'tables', 'models']:
+    for stage in options.stages or ['hostile', *FAMILIES, 'guards', 'schemes', 'tables', 'models']:
         if stage == 'guards':
             guards(options, base, missed)
+            continue
+        if stage == 'schemes':
+            schemes(missed)
             continue
         if stage == 'tables':
             greatest_table(base, missed)
