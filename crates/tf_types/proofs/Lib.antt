@@ -1,0 +1,13 @@
+pub mod Numbers
+pub mod Nodes
+pub mod EqualKeys
+pub mod Instances
+pub mod Added
+pub mod Applied
+pub mod Parts
+pub mod Made
+pub mod Steps
+pub mod Matches
+pub mod MatchedLists
+pub mod Replaced
+pub mod MatchLaws
