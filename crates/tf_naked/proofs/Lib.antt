@@ -10,3 +10,10 @@ pub mod Binders
 pub mod Noted
 pub mod Reversed
 pub mod SortTypes
+pub mod Frames
+pub mod EquationCounts
+pub mod Walked
+pub mod Universals
+pub mod OpenVariables
+pub mod NakedVariables
+pub mod NakedTypes

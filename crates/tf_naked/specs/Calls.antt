@@ -1,2 +1,4 @@
 pub mod Flags
 pub mod Noted
+pub mod Frames
+pub mod Walked

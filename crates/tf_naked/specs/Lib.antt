@@ -5,4 +5,6 @@ pub mod SortLaws
 pub mod Rows
 pub mod Binders
 pub mod Laws
+pub mod Universals
+pub mod NakedLaws
 pub mod Calls
