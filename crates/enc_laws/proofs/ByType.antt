@@ -86,7 +86,7 @@ module _ (g : Signature) where
   never_stands test none p i h =
       stands_nowhere p i (subst (λ x. IsTrue (stands g x p i)) (fun_ext none) h)
 
-  same_stands : (test other : Position → Bool) → ((p : Position) → test p ≡ other p) →
+  pub same_stands : (test other : Position → Bool) → ((p : Position) → test p ≡ other p) →
       (p : Nnf) (i : ℕ) → IsTrue (stands g test p i) → IsTrue (stands g other p i)
   same_stands test other same p i h = subst (λ x. IsTrue (stands g x p i)) (fun_ext same) h
 

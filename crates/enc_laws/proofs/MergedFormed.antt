@@ -58,7 +58,7 @@ EachBelow-back bound (suc first) second values below =
 
 module _ (g : Signature) (s : Typed) (sound : IsSignature g) (structure : IsStructure g s) where
   mutual
-    type_within : (variables : ℕ) (ty : Ty) (formed : IsType g variables ty) (members : List ℕ) →
+    pub type_within : (variables : ℕ) (ty : Ty) (formed : IsType g variables ty) (members : List ℕ) →
         EachBelow (replicate variables (member_count s)) members →
         member_of s members ty < member_count s
     type_within variables ty (type_variable i within) members below =
@@ -70,7 +70,7 @@ module _ (g : Signature) (s : Typed) (sound : IsSignature g) (structure : IsStru
         (subst (λ a. EachBelow (replicate a (member_count s)) (map (member_of s members) types)) all
         (types_within variables types formed members below)))
 
-    types_within : (variables : ℕ) (types : List Ty) (formed : AreTypes g variables types)
+    pub types_within : (variables : ℕ) (types : List Ty) (formed : AreTypes g variables types)
         (members : List ℕ) → EachBelow (replicate variables (member_count s)) members →
         EachBelow (replicate (length types) (member_count s)) (map (member_of s members) types)
     types_within variables types no_types members below = tt

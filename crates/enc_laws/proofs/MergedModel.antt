@@ -1,5 +1,5 @@
 -- The merged structure, over the marked symbols that occur, is a model of the encoded problem.
-use Rattle.std.specs.Prelude.{ℕ, zero, suc, ◌+◌, ◌<◌, ◌≡◌, Bool, true, false, List, [], ◌∷◌, ◌++◌, map, length, replicate, cond, drop, is_none, slice_get, take, Some, IsTrue}
+use Rattle.std.specs.Prelude.{ℕ, zero, suc, ◌+◌, ◌<◌, ◌≡◌, Bool, true, false, List, [], ◌∷◌, map, length, replicate, cond, drop, is_none, slice_get, take, Some, IsTrue}
 use Rattle.std.proofs.Common.{refl, sym, ap, ◌∙◌, subst, arith}
 use Rattle.std.proofs.lemmas.Bool.{lt-ltb}
 use Rattle.enc_base.specs.Tables.{EachBelow}
@@ -9,33 +9,25 @@ use Rattle.tf_core.specs.declared.normal.Normal.{Normal}
 use Rattle.tf_core.specs.Typing.{IsNormal}
 use Rattle.tf_core.specs.Structures.{Typed, member_count}
 use Rattle.tf_core.specs.Models.{IsNormalModel}
-use Rattle.fof_models.specs.declared.problem.FofSymbol.{FofSymbol}
-use Rattle.fof_models.specs.Structures.{Untyped, values_below}
-use Rattle.fof_models.specs.Structures as fof_structures
+use Rattle.fof_models.specs.Structures.{values_below}
 use Rattle.fof_models.specs.Models as fof_models
 use Rattle.fof_models.specs.Models.{AreSatisfied}
 use Rattle.enc_marks.specs.declared.choices.Binding.{Binding}
 use Rattle.enc_marks.specs.declared.choices.Binding.TheVariants.{ByGuard, ByTag}
 use Rattle.enc_marks.specs.Choices.{Choices}
-use Rattle.enc_marks.specs.Occurrence.{count_below, passing}
-use Rattle.enc_marks.specs.Encoded.{MarkedSymbol, marked_symbol, marked_constructor, shared_mark, marked_symbols, marked_constructors, own_marks, all_marks, is_present, renumbered, translation, encoded}
+use Rattle.enc_marks.specs.Encoded.{MarkedSymbol, marked_symbol, marked_constructor, shared_mark, own_marks, all_marks, is_present, translation, encoded}
 use Rattle.tf_stamp.specs.Merged.{merged_size, member_in, element_in}
 use Rattle.enc_laws.specs.MergedStructure.{kept_count, merged_mark, merged_at, merged}
-use Rattle.enc_laws.specs.Ranks.{nth}
 use Rattle.enc_laws.specs.Present.{over_present}
 use Rattle.tf_stamp.proofs.Merged.{stamp_within, member_in-within}
-use Rattle.enc_laws.proofs.Ranked.{nth-count_below}
-use Rattle.enc_laws.proofs.Renumbered.{satisfied-renumbered}
 use Rattle.enc_laws.proofs.Stamped.{MergesByType, element_of}
 use Rattle.enc_laws.proofs.MergedStructure.{symbol_at-other, symbol_at-shared, merged_satisfies}
 use Rattle.enc_laws.proofs.MergedFormed.{EachBelow-front, EachBelow-back, merged_symbol-below, merged_constructor-below}
-use Rattle.enc_laws.proofs.MarksFound.{passing_found, slice_get-within, map_found, InLists, in_first, in_second, lists_found, symbol_found, constructor_found, length-symbols, length-constructors}
+use Rattle.enc_laws.proofs.MarksFound.{slice_get-within}
+use Rattle.enc_laws.proofs.EncodedModel.{IsInRange, encoded_model}
 
 module _ (c : Choices) (normal : Normal) (s : Typed) (by : MergesByType c normal.signature s)
     (sound : IsNormal normal) (model : IsNormalModel normal s) where
-  abbrev own : Untyped
-  own = merged c normal.signature s
-
   -- each marked symbol gives a number in its range
   abbrev IsBelow : ℕ → MarkedSymbol → List ℕ → Type 0
   IsBelow m marked values =
@@ -89,8 +81,6 @@ module _ (c : Choices) (normal : Normal) (s : Typed) (by : MergesByType c normal
       let place = stamp_within s.sizes m (element_in s.sizes v m) inside element.small in
       omega (arith, place)
 
-  -- by the place in the list of all marked symbols
-
   own_below : (behind : ℕ) (marked : MarkedSymbol) (values : List ℕ) →
       slice_get (own_marks normal c.binding c.marking) behind ≡ Some marked →
       EachBelow (replicate marked.symbol.arity (merged_size s.sizes)) values →
@@ -120,105 +110,20 @@ module _ (c : Choices) (normal : Normal) (s : Typed) (by : MergesByType c normal
           (sym (symbol_at-shared c normal s values)) (mark_below c.binding values low)))
       alone (suc behind) there = cc
 
-  behind_below : (behind : ℕ) (marked : MarkedSymbol) (values : List ℕ) →
-      InLists (marked_constructors normal 0 normal.signature.constructors)
-      (own_marks normal c.binding c.marking) behind marked →
-      EachBelow (replicate marked.symbol.arity (merged_size s.sizes)) values →
-      IsBelow (length normal.signature.symbols + behind) marked values
-  behind_below behind marked values (in_first at) below =
-      let found = constructor_found normal 0 normal.signature.constructors behind marked at in
-      let constructor : Constructor = found.0 in
-      let e : 0 + behind ≡ behind = omega arith in
-      let same : marked ≡ marked_constructor normal behind constructor =
-      found.2 ∙ ap (λ x. marked_constructor normal x constructor) e in
-      subst (λ (z : MarkedSymbol). IsBelow (length normal.signature.symbols + behind) z values)
-      (sym same) (constructor_below behind constructor values found.1
-      (subst (λ (z : MarkedSymbol). EachBelow (replicate z.symbol.arity (merged_size s.sizes))
-      values) same below))
-  behind_below behind marked values (in_second later same at) below =
-      let counts = length-constructors normal 0 normal.signature.constructors in
-      let e : length normal.signature.symbols + (length normal.signature.constructors + later)
-      ≡ length normal.signature.symbols + behind = omega (arith, same, counts) in
-      subst (λ z. IsBelow z marked values) e (own_below later marked values at below)
+  in_range : IsInRange c normal (merged c normal.signature s)
+  in_range = record {
+    some = let some = model.structure.some in omega (arith, some);
+    symbols = λ f symbol values at below. symbol_below f symbol values at below;
+    constructors = λ i constructor values at below.
+        constructor_below i constructor values at below;
+    own = λ behind marked values at below. own_below behind marked values at below;
+  }
 
-  all_below : (m : ℕ) (marked : MarkedSymbol) (values : List ℕ) →
-      InLists (marked_symbols c 0 normal.signature.symbols)
-      (marked_constructors normal 0 normal.signature.constructors
-      ++ own_marks normal c.binding c.marking) m marked →
-      EachBelow (replicate marked.symbol.arity (merged_size s.sizes)) values →
-      IsBelow m marked values
-  all_below m marked values (in_first at) below =
-      let found = symbol_found c 0 normal.signature.symbols m marked at in
-      let symbol : Symbol = found.0 in
-      let e : 0 + m ≡ m = omega arith in
-      let same : marked ≡ marked_symbol c m symbol = found.2 ∙ ap (λ x. marked_symbol c x symbol)
-      e in
-      subst (λ (z : MarkedSymbol). IsBelow m z values) (sym same)
-      (symbol_below m symbol values found.1
-      (subst (λ (z : MarkedSymbol). EachBelow (replicate z.symbol.arity (merged_size s.sizes))
-      values) same below))
-  all_below m marked values (in_second behind same at) below =
-      let counts = length-symbols c 0 normal.signature.symbols in
-      let e : length normal.signature.symbols + behind ≡ m = omega (arith, same, counts) in
-      subst (λ z. IsBelow z marked values) e
-      (behind_below behind marked values
-      (lists_found (marked_constructors normal 0 normal.signature.constructors)
-      (own_marks normal c.binding c.marking) behind marked at) below)
-
-  module _ (within : (m : ℕ) → IsTrue (is_present (translation c normal) m) →
-      m < length (all_marks c normal)) where
-    abbrev present : ℕ → Bool
-    present = is_present (translation c normal)
-
-    abbrev over : Untyped
-    over = over_present (is_present (translation c normal)) (length (all_marks c normal))
-        (merged c normal.signature s)
-
-    structure_over : fof_structures.IsStructure (map (λ (one : MarkedSymbol). one.symbol)
-        (passing present 0 (all_marks c normal))) over
-    structure_over = record {
-      inhabited = let some = model.structure.some in omega (arith, some);
-      values = λ f symbol elements at below.
-          let image = map_found (λ (one : MarkedSymbol). one.symbol)
-          (passing present 0 (all_marks c normal)) f symbol at in
-          let marked : MarkedSymbol = image.0 in
-          let found = passing_found present 0 (all_marks c normal) f marked image.1 in
-          let m : ℕ = found.0 in
-          let facts = found.1 in
-          let e : 0 + m ≡ m = omega arith in
-          let passes : present m ≡ true = ap present (sym e) ∙ facts.passes in
-          let rank : count_below m present ≡ f =
-          (let same = ap (λ x. count_below x present) e in
-          let found_rank = facts.rank in
-          let zero_below : count_below 0 present ≡ 0 = refl in
-          omega (arith, same, found_rank, zero_below)) in
-          let number : nth (length (all_marks c normal)) present f ≡ m =
-          ap (nth (length (all_marks c normal)) present) (sym rank)
-          ∙ nth-count_below (length (all_marks c normal)) m present (within m passes) passes in
-          let small : EachBelow (replicate marked.symbol.arity (merged_size s.sizes)) elements =
-          subst (λ (z : FofSymbol). EachBelow (replicate z.arity (merged_size s.sizes))
-          elements) (sym image.2) below in
-          let bounded : IsBelow m marked elements =
-          all_below m marked elements
-          (lists_found (marked_symbols c 0 normal.signature.symbols) _ m marked facts.at)
-          small in
-          subst (λ (z : FofSymbol). over.symbol_at f elements
-          < values_below z (merged_size s.sizes)) image.2
-          (subst (λ z. (merged c normal.signature s).symbol_at z elements
-          < values_below marked.symbol (merged_size s.sizes)) (sym number) bounded);
-    }
-
-    formulas_over : AreSatisfied over
-        (map (λ formula. renumbered present formula) (translation c normal))
-    formulas_over =
-        satisfied-renumbered present over (merged c normal.signature s) refl (translation c normal)
-        (λ m is values.
-        ap (λ z. (merged c normal.signature s).symbol_at z values)
-        (nth-count_below (length (all_marks c normal)) m present (within m is) is))
-        (merged_satisfies c normal s by sound model)
-
-    pub merged_model : fof_models.IsModel (encoded c normal).problem
-        (over_present (is_present (translation c normal)) (length (all_marks c normal))
-        (merged c normal.signature s))
-    unfolding encoded
-    merged_model = record { structure = structure_over; formulas = formulas_over }
+  pub merged_model : ((m : ℕ) → IsTrue (is_present (translation c normal) m) →
+      m < length (all_marks c normal)) →
+      fof_models.IsModel (encoded c normal).problem
+      (over_present (is_present (translation c normal)) (length (all_marks c normal))
+      (merged c normal.signature s))
+  merged_model within =
+      encoded_model c normal (merged c normal.signature s) in_range
+      (merged_satisfies c normal s by sound model) within

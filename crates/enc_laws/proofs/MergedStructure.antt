@@ -35,7 +35,7 @@ take-front (x ∷ front) back zero all = absurd (omega (arith, all))
 take-front (x ∷ front) back (suc n) all =
     ap (λ l. x ∷ l) (take-front front back n (omega (arith, all)))
 
-drop-front : (front back : List ℕ) (n : ℕ) → length front ≡ n → drop n (front ++ back) ≡ back
+pub drop-front : (front back : List ℕ) (n : ℕ) → length front ≡ n → drop n (front ++ back) ≡ back
 drop-front [] back zero all = refl
 drop-front [] back (suc n) all = absurd (omega (arith, all))
 drop-front (x ∷ front) back zero all = absurd (omega (arith, all))

@@ -96,7 +96,7 @@ slice_get-front [] others i item at = cc
 slice_get-front (first ∷ items) others zero item at = at
 slice_get-front (first ∷ items) others (suc i) item at = slice_get-front items others i item at
 
-slice_get-behind : {A : Type 0} (items others : List A) (i : ℕ) (item : A) →
+pub slice_get-behind : {A : Type 0} (items others : List A) (i : ℕ) (item : A) →
     slice_get others i ≡ Some item → slice_get (items ++ others) (length items + i) ≡ Some item
 slice_get-behind [] others i item at = let e : i ≡ 0 + i = omega arith in
     subst (λ x. slice_get others x ≡ Some item) e at
@@ -166,7 +166,7 @@ module _ (c : Choices) (normal : Normal) where
     signature = map (λ one. one.symbol)
         (passing (is_present (translation c normal)) 0 (all_marks c normal))
 
-    well_formed : IsWellFormed (map (λ one. one.symbol)
+    pub well_formed : IsWellFormed (map (λ one. one.symbol)
         (passing (is_present (translation c normal)) 0 (all_marks c normal))) s
     unfolding encoded
     well_formed = model.well_formed
@@ -181,7 +181,7 @@ module _ (c : Choices) (normal : Normal) where
     abbrev pub marked : Untyped
     marked = over_all (is_present (translation c normal)) (is_tag c normal) (reading s)
 
-    mark_present : (m : ℕ) (item : MarkedSymbol) (values : List ℕ) →
+    pub mark_present : (m : ℕ) (item : MarkedSymbol) (values : List ℕ) →
         slice_get (all_marks c normal) m ≡ Some item →
         0 < values_below item.symbol s.size → present m ≡ true →
         marked.symbol_at m values < values_below item.symbol s.size

@@ -53,6 +53,12 @@ collapsed_symbol s count f symbol kept values =
     s.symbol_at f members
     (elements_collapsed s count (map (member_of s members) symbol.arguments) values)
 
+-- What a constructor gives: the member for what the arguments are read as. Where marks are of sorts
+-- no type is written, and so no constructor occurs.
+abbrev pub collapsed_constructor : Marking → Typed → ℕ → List ℕ → ℕ
+collapsed_constructor ByType s i values = s.constructor_at i (members_collapsed s values)
+collapsed_constructor BySort s i values = 0
+
 -- A sort's guard holds of the numbers below its size, and its tag gives what a number is read as.
 abbrev pub collapsed_mark : Binding → ℕ → List ℕ → ℕ
 collapsed_mark binding size [] = 0
@@ -73,7 +79,7 @@ module _ (c : Choices) (normal : Normal) (s : Typed) where
   abbrev pub collapsed_other : ℕ → List ℕ → ℕ
   collapsed_other other values =
       cond (ltb other (length normal.signature.constructors))
-      (s.constructor_at other (members_collapsed s values))
+      (collapsed_constructor c.marking s other values)
       (collapsed_sort_mark (other - length normal.signature.constructors) values)
 
   abbrev pub collapsed_at : ℕ → Option Symbol → List ℕ → ℕ

@@ -10,3 +10,5 @@ pub mod Lifted
 pub mod Present
 pub mod Total
 pub mod Laws
+pub mod CollapsedLaws
+pub mod LiftedBySort

@@ -1,13 +1,9 @@
 -- Schemes keep models, from the laws of the structures.
 use Rattle.std.specs.Prelude.{◌↔◌, List, [], ◌∷◌, length}
-use Rattle.std.specs.List.{AllByRecursion}
 use Rattle.std.proofs.Common.{refl, sym, subst}
-use Rattle.tf_core.specs.declared.normal.NormalFormula.{NormalFormula}
 use Rattle.tf_core.specs.declared.normal.Normal.{Normal}
-use Rattle.tf_core.specs.declared.signature.Signature.{Signature}
 use Rattle.tf_core.specs.Structures.{Typed}
-use Rattle.tf_core.specs.Typing.{IsNnf, IsNormal}
-use Rattle.tf_core.specs.Sound.{IsSoundFormula, IsSoundNormal}
+use Rattle.tf_core.specs.Sound.{IsSoundNormal}
 use Rattle.tf_core.specs.TypedTables.{TypedTables, AreNormalModel}
 use Rattle.tf_core.specs.TypedTables as typed
 use Rattle.fof_models.specs.Models.{AreModel, HasFiniteModel}
@@ -22,24 +18,13 @@ use Rattle.enc_marks.specs.Schemes.{choices_of}
 use Rattle.enc_marks.proofs.Sound.{translations_well_formed}
 use Rattle.enc_marks.proofs.SoundSchemes.{schemes_fitting}
 use Rattle.enc_laws.specs.Present.{over_present}
-use Rattle.enc_laws.proofs.Schemes.{models_encoded, tables_lifted}
+use Rattle.enc_laws.proofs.LiftedBySort.{normal_typed}
+use Rattle.enc_laws.proofs.Schemes.{models_encoded}
+use Rattle.enc_laws.proofs.SortSchemes.{models_lifted}
 use Rattle.structure_tables.proofs.TypedModels.{AreNormalModel-tabled}
 use Rattle.enc_models.specs.Lowered.{structure_by, lowered}
 use Rattle.enc_models.specs.LiftedTables.{lifted_structure, lifted_tables}
-use Rattle.enc_models.specs.KeepsModels.{translation_by, LowersModels, LiftsModels, KeepsModels, IsMerged, IsMarkedByType}
-
--- a sound normal problem is well typed
-formulas_typed : (g : Signature) (formulas : List NormalFormula) →
-    AllByRecursion (IsSoundFormula g) formulas →
-    AllByRecursion (λ formula. IsNnf g formula.type_variables [] formula.body) formulas
-formulas_typed g [] are = tt
-formulas_typed g (formula ∷ formulas) are = (are.0.typed, formulas_typed g formulas are.1)
-
-pub normal_typed : (normal : Normal) → IsSoundNormal normal → IsNormal normal
-normal_typed normal sound = record {
-  signature = sound.signature.typed;
-  formulas = formulas_typed normal.signature normal.formulas sound.formulas;
-}
+use Rattle.enc_models.specs.KeepsModels.{translation_by, LowersModels, LiftsModels, KeepsModels, IsMerged}
 
 pub lowers_models : (which : Scheme) → IsMerged which → LowersModels which
 lowers_models which merges normal t sound applies are =
@@ -52,11 +37,10 @@ lowers_models which merges normal t sound applies are =
     (translations_well_formed c normal (schemes_fitting.schemes which normal applies) sound)
     (models_encoded which normal s (merges normal) (normal_typed normal sound) are.model))
 
-pub lifts_models : (which : Scheme) → IsMarkedByType which → LiftsModels which
-lifts_models which by normal s sound applies model =
+pub lifts_models : (which : Scheme) → LiftsModels which
+lifts_models which normal s sound applies model =
     AreNormalModel-tabled normal (lifted_structure (choices_of which normal) normal s)
-    (normal_typed normal sound)
-    (tables_lifted which normal s (by normal) (normal_typed normal sound) model)
+    (normal_typed normal sound) (models_lifted.schemes which normal s sound applies model)
 
 -- A scheme that keeps models has a finite model of the translation exactly where the problem has one.
 pub finite_models_kept : (which : Scheme) → KeepsModels which → (normal : Normal) →
@@ -75,28 +59,10 @@ finite_models_kept which keeps normal sound applies = (
 
 -- the schemes
 
--- some normal problem
-nothing : Normal
-nothing = record {
-  signature = record { constructors = []; symbols = [] };
-  formulas = [];
-  fresh = 0;
-}
-
-pub merged_by_type : (which : Scheme) → IsMerged which → IsMarkedByType which
-merged_by_type scheme.Guards merges = λ normal. refl
-merged_by_type scheme.Tags merges = λ normal. refl
-merged_by_type scheme.GuardsCover merges = λ normal. refl
-merged_by_type scheme.TagsCover merges = λ normal. refl
-merged_by_type scheme.Args merges = λ normal. refl
-merged_by_type scheme.Erase merges = let collapsed = merges nothing in cc
-merged_by_type scheme.GuardsLight merges = let collapsed = merges nothing in cc
-merged_by_type scheme.TagsLight merges = let collapsed = merges nothing in cc
-
 pub merged_schemes_keep : (which : Scheme) → IsMerged which → KeepsModels which
 merged_schemes_keep which merges = record {
   lowers = lowers_models which merges;
-  lifts = lifts_models which (merged_by_type which merges);
+  lifts = lifts_models which;
 }
 
 pub guards_keep : KeepsModels scheme.Guards

@@ -49,5 +49,6 @@ IsMarkedByType which = (normal : Normal) → (choices_of which normal).marking �
 abbrev pub MergedSchemesKeepModels : Type 0
 MergedSchemesKeepModels = (which : Scheme) → IsMerged which → KeepsModels which
 
-abbrev pub SchemesByTypeLiftModels : Type 0
-SchemesByTypeLiftModels = (which : Scheme) → IsMarkedByType which → LiftsModels which
+-- all schemes lift models
+abbrev pub SchemesLiftModels : Type 0
+SchemesLiftModels = (which : Scheme) → LiftsModels which

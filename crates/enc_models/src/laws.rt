@@ -1,6 +1,6 @@
 //! Which schemes keep models, as calls that do nothing.
 
-ghost use Rattle.enc_models.specs.KeepsModels.{MergedSchemesKeepModels, SchemesByTypeLiftModels};
+ghost use Rattle.enc_models.specs.KeepsModels.{MergedSchemesKeepModels, SchemesLiftModels};
 
 /// `guards`, `tags` and both cover schemes keep models: the lowered tables of any model of a sound
 /// normal problem are a model of its translation, and the lifted tables of any model of the
@@ -9,8 +9,8 @@ pub fn merged_schemes_keep_models()
     ensures { MergedSchemesKeepModels }
 {}
 
-/// Where guards and tags have the type as an argument, the lifted tables of any model of the
-/// translation are a model of the problem. So it is for `args` too.
-pub fn schemes_by_type_lift_models()
-    ensures { SchemesByTypeLiftModels }
+/// The lifted tables of any model of a translation are a model of the problem, for all schemes: of a
+/// sound normal problem to which the scheme applies.
+pub fn schemes_lift_models()
+    ensures { SchemesLiftModels }
 {}

@@ -14,7 +14,7 @@ mod sources;
 mod to_typed;
 mod to_untyped;
 
-pub use laws::{merged_schemes_keep_models, schemes_by_type_lift_models};
+pub use laws::{merged_schemes_keep_models, schemes_lift_models};
 pub use schemes::{lift_by, lower_by};
 pub use to_typed::lift;
 pub use to_untyped::lower;

@@ -9,9 +9,9 @@ use Rattle.fof_models.specs.declared.structure.Structure.{Structure}
 use Rattle.fof_models.specs.Models.{AreModel}
 use Rattle.enc_marks.specs.declared.encoded.Encoded.{Encoded}
 use Rattle.enc_marks.specs.Choices.{Choices}
-use Rattle.enc_laws.proofs.Schemes.{tables_lifted}
+use Rattle.enc_laws.proofs.SortSchemes.{models_lifted}
 use Rattle.enc_models.specs.LiftedTables.{lifted_structure, lifted_tables, lifted_entries}
-use Rattle.enc_models.proofs.KeepsModels.{normal_typed, lifts_models}
+use Rattle.enc_models.proofs.KeepsModels.{lifts_models}
 use Rattle.enc_models.proofs.schemes.lift_by.Goals as goal
 
 pub lift-requires-clause-fits : goal.lift-requires-clause-fits
@@ -19,13 +19,13 @@ lift-requires-clause-fits g c =
     let normal : Normal = c.args.normal.now in
     let s : Structure = c.args.model.now in
     let choices_are = c.requires.1.0 in
-    let by_type = c.requires.1.1.0 in
+    let applies = c.requires.1.1.1.1.0 in
     let sound = c.requires.1.1.1.1.1.0 in
     let encoded_is = c.requires.1.1.1.1.1.1.0 in
     let model = c.requires.1.1.1.1.1.1.1 in
     subst (λ (k : Choices). IsStructure normal.signature (lifted_structure k normal s))
     (sym choices_are)
-    (tables_lifted g.which normal s (by_type normal) (normal_typed normal sound)
+    (models_lifted.schemes g.which normal s sound applies
     (subst (λ (e : Encoded). AreModel e.problem s) encoded_is model)).structure
 
 pub returns-clause-model : goal.returns-clause-model
@@ -33,7 +33,6 @@ returns-clause-model g c =
     let normal : Normal = c.args.normal.now in
     let s : Structure = c.args.model.now in
     let choices_are = c.requires.1.0 in
-    let by_type = c.requires.1.1.0 in
     let applies = c.requires.1.1.1.1.0 in
     let sound = c.requires.1.1.1.1.1.0 in
     let encoded_is = c.requires.1.1.1.1.1.1.0 in
@@ -44,7 +43,7 @@ returns-clause-model g c =
     (λ t is.
     subst (AreNormalModel normal)
     (sym (is ∙ ap (λ (k : Choices). lifted_tables k normal s) choices_are))
-    (lifts_models g.which by_type normal s sound applies
+    (lifts_models g.which normal s sound applies
     (subst (λ (e : Encoded). AreModel e.problem s) encoded_is model)))
     c.lift.ensures.exact
 
