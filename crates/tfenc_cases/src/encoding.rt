@@ -47,7 +47,8 @@ fn bare_by(alloc: Global, normal: &Normal) -> Result<Encoded, Stop>
 /// test that they apply.
 pub fn encoded_by(alloc: Global, which: &Scheme, normal: &Normal) -> Result<Encoded, Stop>
     requires sound { IsSoundNormal normal.now }
-    ensures exact { IfOk result (λ made. made ≡ encoded (choices_of which.now normal.now) normal.now) }
+    ensures exact { IfOk result (λ made.
+        made ≡ encoded (choices_of which.now normal.now) normal.now) }
     ensures by_type { IfOk result (λ _. IsByType (choices_of which.now normal.now)) }
 {
     match which {
@@ -106,7 +107,8 @@ pub fn encoding_by(
     requires normal { normal.now ≡ normal_of problem.now }
     ensures sound { IfOk result (λ e. IsSound e.encoded.problem) }
     ensures named { IfOk result (λ e. AreNamed e.names e.encoded.problem) }
-    ensures exact { IfOk result (λ e. e.encoded ≡ encoded (choices_of which.now normal.now) normal.now) }
+    ensures exact { IfOk result (λ e.
+        e.encoded ≡ encoded (choices_of which.now normal.now) normal.now) }
 {
     let encoded = encoded_by(alloc, which, normal)?;
     if !encoded.problem.is_sound() {

@@ -78,8 +78,8 @@ impl Out {
         self.end();
     }
 
-    /// Numbers with blanks between them. Five or more equal ones are the number, a star and how many;
-    /// `-` is no number at all.
+    /// Numbers with blanks between them. Five or more equal ones are the number, a star and how
+    /// many; `-` is no number at all.
     pub fn numbers(&mut self, numbers: &[u32]) {
         let mut value = 0;
         let mut count = 0u64;
