@@ -1,5 +1,5 @@
 -- Pieces that were put one after another.
-use Rattle.std.proofs.Common.{◌≡◌, ◌≤◌, ℕ, Bool, true, false, List, [], ◌++◌, Option, None, Some}
+use Rattle.std.proofs.Common.{◌≡◌, ℕ, Bool, true, false, List, [], ◌++◌, Option, None, Some}
 use Rattle.std.proofs.Common.{refl, sym, ap, ◌∙◌, subst, arith, append-nil, append_assoc}
 use Rattle.std.proofs.Common.{if◌then◌else◌, take, drop}
 use Rattle.std.proofs.lemmas.List.{take-append-drop}
@@ -55,13 +55,13 @@ put_stored waiting piece a f = record {
 
 -- what waited is sent
 pub put_flushed : (waiting : List ℕ) (a b : Option (List ℕ)) (f g : ℕ) → Appends a b waiting
-    → f ≤ g → Put (Some waiting) (Some []) a b f g []
-put_flushed waiting a b f g sends later = record {
+    → g ≡ f → Put (Some waiting) (Some []) a b f g []
+put_flushed waiting a b f g sends same = record {
   it = λ start faults text sent. (
     sent.0 ++ waiting,
     both start a b sent.0 waiting sent.1 sends,
     ap (λ t. t ++ []) sent.2,
-    omega (arith, later, sent.3),
+    same ∙ sent.3,
   );
 }
 
@@ -79,23 +79,23 @@ put_broken waiting a b f g sends rose = record {
 -- what waited was given to a write, which went well or failed
 pub put_written : {A E : Type 0} (r : Result A E) (well : Bool) (waiting : List ℕ)
     (a b : Option (List ℕ)) (f g : ℕ) → well ≡ is_ok r → OnOk r (Appends a b waiting)
-    → OnErr r (AppendsPrefix a b waiting) → OnErr r (Rose f g) → f ≤ g
+    → OnErr r (AppendsPrefix a b waiting) → OnErr r (Rose f g) → OnOk r (g ≡ f)
     → Put (Some waiting) (left well []) a b f g []
-put_written (Ok x) well waiting a b f g is sends part rose later =
+put_written (Ok x) well waiting a b f g is sends part rose same =
     subst (λ z. Put (Some waiting) (left z []) a b f g []) (sym is)
-    (put_flushed waiting a b f g sends later)
-put_written (Err e) well waiting a b f g is sends part rose later =
+    (put_flushed waiting a b f g sends same)
+put_written (Err e) well waiting a b f g is sends part rose same =
     subst (λ z. Put (Some waiting) (left z []) a b f g []) (sym is)
     (put_broken waiting a b f g part rose)
 
 -- a piece was given to a write, while nothing waited
 pub put_directly : {A E : Type 0} (r : Result A E) (well : Bool) (piece : List ℕ)
     (a b : Option (List ℕ)) (f g : ℕ) → well ≡ is_ok r → OnOk r (Appends a b piece)
-    → OnErr r (AppendsPrefix a b piece) → OnErr r (Rose f g) → f ≤ g
+    → OnErr r (AppendsPrefix a b piece) → OnErr r (Rose f g) → OnOk r (g ≡ f)
     → Put (Some []) (left well []) a b f g piece
-put_directly r well piece a b f g is sends part rose later =
+put_directly r well piece a b f g is sends part rose same =
     put_as (append-nil piece)
-    (then_put (put_stored [] piece a f) (put_written r well piece a b f g is sends part rose later))
+    (then_put (put_stored [] piece a f) (put_written r well piece a b f g is sends part rose same))
 
 -- Bytes are filled up with the first n bytes of a piece and sent, and then comes the rest.
 pub put_filled : {u v : Waiting} {a b c : Option (List ℕ)} {f g h : ℕ}
@@ -124,11 +124,13 @@ has_stopped failed items w is well =
 
 -- ---- the end
 
-pub finished : (waiting : List ℕ) (a b : Option (List ℕ)) (f : ℕ) → Appends a b waiting
-    → Finished (Some waiting) a b f
-finished waiting a b f sends = record {
-  it = λ start faults text sent. subst (λ t. Appends start b t) (sym sent.2)
-      (both start a b sent.0 waiting sent.1 sends);
+pub finished : (waiting : List ℕ) (a b : Option (List ℕ)) (f g : ℕ) → Appends a b waiting
+    → g ≡ f → Finished (Some waiting) a b f g
+finished waiting a b f g sends same = record {
+  it = λ start faults text sent. (
+    subst (λ t. Appends start b t) (sym sent.2) (both start a b sent.0 waiting sent.1 sends),
+    same ∙ sent.3,
+  );
 }
 
 pub broken : {A E : Type 0} (r : Result A E) (w : Waiting) (waiting : List ℕ)
@@ -151,13 +153,13 @@ still_broken a f = record { it = λ start faults text sent. sent }
 
 -- nothing was sent yet
 nothing_sent : (a : Option (List ℕ)) (f : ℕ) → HasSent a f [] (Some []) a f
-nothing_sent None f = ([], tt, refl, omega arith)
-nothing_sent (Some xs) f = ([], sym (append-nil xs), refl, omega arith)
+nothing_sent None f = ([], tt, refl, refl)
+nothing_sent (Some xs) f = ([], sym (append-nil xs), refl, refl)
 
--- the text is in the sink
-pub all_sent : {u w : Waiting} {a b c : Option (List ℕ)} {f g : ℕ} {xs : List ℕ} → u ≡ Some []
-    → Put u w a b f g xs → Finished w b c g → Appends a c xs
-all_sent {u} {w} {a} {b} {c} {f} {g} {xs} new p q = q.it a f xs
+-- the text is in the sink, and no fault was counted
+pub all_sent : {u w : Waiting} {a b c : Option (List ℕ)} {f g h : ℕ} {xs : List ℕ} → u ≡ Some []
+    → Put u w a b f g xs → Finished w b c g h → Appends a c xs × (h ≡ f)
+all_sent {u} {w} {a} {b} {c} {f} {g} {h} {xs} new p q = q.it a f xs
     (p.it a f [] (subst (λ z. HasSent a f [] z a f) (sym new) (nothing_sent a f)))
 
 -- a prefix of the text is in the sink, and the count rose

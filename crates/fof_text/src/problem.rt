@@ -84,6 +84,7 @@ pub fn write_problem<O: Sink>(
     requires named { AreNamed names.now problem.now }
     ensures exact { OnOk result
         (Appends (O.bytes out.old) (O.bytes out.new) (words.text_of names.now problem.now)) }
+    ensures kept_faults { OnOk result (O.faults out.new ≡ O.faults out.old) }
     ensures cause { OnErr result (Rose (O.faults out.old) (O.faults out.new)) }
     ensures within { OnErr result
         (AppendsPrefix (O.bytes out.old) (O.bytes out.new) (words.text_of names.now problem.now)) }

@@ -86,6 +86,7 @@ pub fn write_typed<O: Sink>(
         TellsTyped (typed_text signature.now structure.now) signature.now structure.now }
     ensures exact { OnOk result
         (Appends (O.bytes out.old) (O.bytes out.new) (typed_text signature.now structure.now)) }
+    ensures kept_faults { OnOk result (O.faults out.new ≡ O.faults out.old) }
     ensures cause { OnErr result (Rose (O.faults out.old) (O.faults out.new)) }
     ensures within { OnErr result
         (AppendsPrefix (O.bytes out.old) (O.bytes out.new)
@@ -117,6 +118,7 @@ pub fn write_untyped<O: Sink>(
     ensures exact { OnOk result
         (Appends (O.bytes out.old) (O.bytes out.new)
         (untyped_text problem.now.signature names.now structure.now)) }
+    ensures kept_faults { OnOk result (O.faults out.new ≡ O.faults out.old) }
     ensures cause { OnErr result (Rose (O.faults out.old) (O.faults out.new)) }
     ensures within { OnErr result
         (AppendsPrefix (O.bytes out.old) (O.bytes out.new)

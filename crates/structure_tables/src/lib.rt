@@ -16,6 +16,7 @@ mod ways;
 
 pub use counts::{count_tuples, untyped_entries};
 pub use laws::{counts_are_lengths, normal_models_are_tabled, typed_tables_are_functions};
+pub use tuples::{TupleFunction, table_of};
 pub use typed::{TypedSource, tabulate_typed};
 pub use typed_counts::{add_sizes, entries_of_constructors, entries_of_symbol, typed_entries};
 pub use untyped::{UntypedSource, tabulate};

@@ -6,26 +6,28 @@ use enc_base::{List, NoMemory, next_tuple};
 use std::alloc::Global;
 
 /// A function of tuples of numbers.
-pub(crate) trait TupleFunction {
+pub trait TupleFunction {
     /// Where it is defined.
     ghost is_defined: { Self → List ℕ → Type 0 };
 
     /// What it gives.
     ghost gives: { Self → List ℕ → ℕ };
 
+    /// What it gives for a tuple.
     fn at(&self, values: &[u32]) -> u32
         requires { is_defined self.now values.now }
         ensures { result ≡ gives self.now values.now };
 }
 
-/// The table of a function of so many numbers below a bound.
-pub(crate) fn table_of<F: TupleFunction>(
+/// The table of a function of so many numbers below a bound, in lexicographic order. There has to be
+/// a tuple: numbers below the bound, or none asked for.
+pub fn table_of<F: TupleFunction>(
     alloc: Global,
     bound: u32,
     count: u32,
     function: &F,
 ) -> Result<List<u32>, NoMemory>
-    requires some { 0 < bound }
+    requires some { EachBelow (replicate count bound) (replicate count 0) }
     requires defined { (values : List ℕ) → EachBelow (replicate count bound) values → F.is_defined function.now values }
     ensures { IfOk result (λ entries. entries ≡ table (replicate count bound) (F.gives function.now)) }
 {

@@ -5,4 +5,4 @@ pub returns-clause-puts : goal.returns-clause-puts
 returns-clause-puts g c = put_written _ _ _ _ _ _ _ c.is_ok-sent.ensures.value
     (rw c.as_slice.ensures.value at c.write.ensures.ok)
     (rw c.as_slice.ensures.value at c.write.ensures.begins) c.write.ensures.failed
-    c.write.ensures.later
+    c.write.ensures.kept_faults

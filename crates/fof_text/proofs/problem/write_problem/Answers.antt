@@ -3,7 +3,11 @@ use Rattle.fof_text.proofs.problem.write_problem.Goals as goal
 
 pub returns-in-Ok-clause-exact : goal.returns-in-Ok-clause-exact
 returns-in-Ok-clause-exact g c =
-    all_sent c.new-pending.ensures c.put_problem.ensures c.in-Ok.ensures.exact
+    (all_sent c.new-pending.ensures c.put_problem.ensures c.in-Ok.ensures.exact).0
+
+pub returns-in-Ok-clause-kept_faults : goal.returns-in-Ok-clause-kept_faults
+returns-in-Ok-clause-kept_faults g c =
+    (all_sent c.new-pending.ensures c.put_problem.ensures c.in-Ok.ensures.exact).1
 
 pub returns-in-Err-clause-cause : goal.returns-in-Err-clause-cause
 returns-in-Err-clause-cause g c =

@@ -4,7 +4,11 @@ use Rattle.model_tables.proofs.write.write_untyped.Goals as goal
 
 pub returns-in-Ok-clause-exact : goal.returns-in-Ok-clause-exact
 returns-in-Ok-clause-exact g c =
-    all_sent c.new-pending.ensures c.put_untyped.ensures.puts c.in-Ok.ensures.exact
+    (all_sent c.new-pending.ensures c.put_untyped.ensures.puts c.in-Ok.ensures.exact).0
+
+pub returns-in-Ok-clause-kept_faults : goal.returns-in-Ok-clause-kept_faults
+returns-in-Ok-clause-kept_faults g c =
+    (all_sent c.new-pending.ensures c.put_untyped.ensures.puts c.in-Ok.ensures.exact).1
 
 pub returns-in-Err-clause-cause : goal.returns-in-Err-clause-cause
 returns-in-Err-clause-cause g c =

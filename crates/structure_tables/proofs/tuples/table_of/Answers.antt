@@ -1,7 +1,6 @@
 use Rattle.std.proofs.Common.{◌∙◌, sym, subst, length, replicate}
 use Rattle.std.proofs.lemmas.List.{length-replicate}
 use Rattle.enc_base.specs.Tables.{EachBelow}
-use Rattle.enc_base.proofs.TupleOrder.{zeros_below}
 use Rattle.structure_tables.proofs.tuples.table_of.Goals as goal
 
 pub append_table-requires-clause-some : goal.append_table-requires-clause-some
@@ -10,4 +9,4 @@ append_table-requires-clause-some g c =
     (sym (c.as_slice.ensures.value ∙ c.in_ok-bounds.ensures))
     (subst (λ n. EachBelow (replicate c.args.count c.args.bound) (replicate n 0))
     (sym (length-replicate c.args.count c.args.bound))
-    (zeros_below c.args.count c.args.bound c.requires.some))
+    c.requires.some)

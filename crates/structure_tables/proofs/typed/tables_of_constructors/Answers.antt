@@ -1,8 +1,14 @@
 use Rattle.std.proofs.Common.{◌∙◌, ◌++◌, ◌∷◌, [], length, refl, ap, replicate}
 use Rattle.enc_base.specs.Tables.{table}
 use Rattle.structure_tables.specs.TypedTabled.{constructor_table, constructor_tables}
+use Rattle.enc_base.proofs.TupleOrder.{zeros_below}
 use Rattle.structure_tables.proofs.Tabling.{tables-next}
 use Rattle.structure_tables.proofs.typed.tables_of_constructors.Goals as goal
+
+pub table_of-requires-clause-some : goal.table_of-requires-clause-some
+table_of-requires-clause-some g c =
+    rw c.requires.sized.same
+    (zeros_below c.index-constructors-c.result.arity _ c.requires.sized.fits.some)
 
 pub loop-c-preserved : goal.loop-c-preserved
 loop-c-preserved g c =

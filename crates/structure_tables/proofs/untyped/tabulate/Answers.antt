@@ -1,8 +1,13 @@
 use Rattle.std.proofs.Common.{◌∙◌, ◌++◌, ◌∷◌, [], refl, ap, replicate}
 use Rattle.enc_base.specs.Tables.{table}
 use Rattle.fof_models.specs.Tabled.{symbol_table, symbol_tables}
+use Rattle.enc_base.proofs.TupleOrder.{zeros_below}
 use Rattle.structure_tables.proofs.Tabling.{tables-next}
 use Rattle.structure_tables.proofs.untyped.tabulate.Goals as goal
+
+pub table_of-requires-clause-some : goal.table_of-requires-clause-some
+table_of-requires-clause-some g c =
+    rw c.size.ensures (zeros_below c.index-signature-f.result.arity _ c.requires.inhabited)
 
 pub loop-f-preserved : goal.loop-f-preserved
 loop-f-preserved g c =
