@@ -89,6 +89,13 @@ unfolding expect
 answers-fail true fault fails = absurd (false≢true (sym fails))
 answers-fail false fault fails = answers-bad fault tt
 
+-- a test that fails, and its fault or want of memory
+pub answers-failed : (test : Bool) (fault error : TypeError) → test ≡ false →
+    IsFirst (fault ∷ []) error → Answers (expect test fault) (Err error)
+unfolding expect bad
+answers-failed true fault error fails first = absurd (false≢true (sym fails))
+answers-failed false fault error fails first = record { exact = tt; refused = first }
+
 -- ---- in turn
 
 pub answers-none : {A : Type 0} → Answers (in_turn {A = A} []) (Ok [])

@@ -13,14 +13,14 @@ use Rattle.tf_core.specs.declared.signature.Signature.{Signature}
 use Rattle.tf_core.specs.Types.{same_type}
 use Rattle.tf_check.specs.declared.error.TypeError.{TypeError}
 use Rattle.tf_check.specs.declared.error.TypeError.TheVariants.{Mismatch, TypeQuantifier}
-use Rattle.tf_check.specs.Answers.{Answers, map_ok}
+use Rattle.tf_check.specs.Answers.{Answers, IsFirst, map_ok}
 use Rattle.tf_check.specs.Core.{binders_of}
 use Rattle.tf_check.specs.Scope.{Scope, Binding, TypeVariable, TermVariable}
 use Rattle.tf_check.specs.Terms.{Typed, term_reading}
 use Rattle.tf_check.specs.Formulas.{Binders, binds_type, binder, binders, variable_type, type_binder, term_binder, quantified, equation, two, quantifier, FormulaReading, formula_reading, inside_each, types_bound}
 use Rattle.tf_check.specs.Visited.{Visited, good, expect, ◌>>=◌, ◌>>◌}
 use Rattle.tf_check.proofs.VisitLemmas.{value-bind, value-then, value-good}
-use Rattle.tf_check.proofs.AnswerLemmas.{answers-good, answers-bind, answers-stop, answers-then, answers-then_stop, answers-pass, answers-fail, taken_next}
+use Rattle.tf_check.proofs.AnswerLemmas.{answers-good, answers-bind, answers-stop, answers-then, answers-then_stop, answers-pass, answers-fail, answers-failed, taken_next}
 use Rattle.tf_check.proofs.SameLemmas.{same_type-self, same_type-equal}
 
 -- ---- quantifiers one after another
@@ -96,18 +96,19 @@ module _ (entry : ℕ) (g : Signature) (make : Formula → Formula) (left right 
       (subst (λ ty. same_type a.1 ty ≡ true) same (same_type-self a.1)))
       (answers-good (make (f.Equal a.1 a.0 b.0)))))
 
-  pub equation_mismatch : (a b : Typed) →
+  pub equation_refused : (a b : Typed) →
       Answers ((term_reading entry g left).as_term scope) (Ok a) →
       Answers ((term_reading entry g right).as_term scope) (Ok b) → (a.1 ≡ b.1 → ⊥) →
-      Answers (equation entry g make left right scope) (Err (Mismatch entry a.1 b.1))
-  equation_mismatch a b one two differs =
-      behind a (Err (Mismatch entry a.1 b.1)) one
+      (error : TypeError) → IsFirst (Mismatch entry a.1 b.1 ∷ []) error →
+      Answers (equation entry g make left right scope) (Err error)
+  equation_refused a b one two differs error first =
+      behind a (Err error) one
       (answers-bind ((term_reading entry g right).as_term scope) (λ y. sides a y) b
-      (Err (Mismatch entry a.1 b.1)) two
+      (Err error) two
       (answers-then_stop (expect (same_type a.1 b.1) (Mismatch entry a.1 b.1))
-      (good (make (f.Equal a.1 a.0 b.0))) (Mismatch entry a.1 b.1)
-      (answers-fail (same_type a.1 b.1) (Mismatch entry a.1 b.1)
-      (is_false (same_type a.1 b.1) (λ same. differs (same_type-equal a.1 b.1 same))))))
+      (good (make (f.Equal a.1 a.0 b.0))) error
+      (answers-failed (same_type a.1 b.1) (Mismatch entry a.1 b.1) error
+      (is_false (same_type a.1 b.1) (λ same. differs (same_type-equal a.1 b.1 same))) first)))
 
 -- the negation of what is answered
 pub equation_not : (entry : ℕ) (g : Signature) (left right : RawTerm) (scope : Scope)

@@ -2,6 +2,8 @@
 use Rattle.std.proofs.Common.{◌≡◌, ℕ, zero, suc, ◌+◌, ◌-◌, ◌<◌, ◌≤◌, true, false, List, [], ◌∷◌, ◌++◌, length, map, take, drop, reverse, get_or, bytes_eq, Some, None, refl, sym, ap, ◌∙◌, subst, arith, if◌then◌else◌}
 use Rattle.std.proofs.lemmas.List.{map-append, reverse-append, length-reverse, length-map}
 use Rattle.tf_core.specs.declared.ty.Ty.{Ty}
+use Rattle.tf_types.specs.declared.node.TypeId.{TypeId}
+use Rattle.tf_types.specs.Numbers.{type_at}
 use Rattle.tf_check.specs.Scope.{Binding, Scope, TypeVariable, TermVariable, Meaning, Unbound, OfType, OfTerm, meaning, under_binder, type_variables}
 use Rattle.tf_check.specs.declared.scope.Binding as code
 use Rattle.tf_check.specs.Bound.{named_binding, binding_of, scope_of}
@@ -24,18 +26,19 @@ raised-more by (OfType i) = refl
 raised-more by (OfTerm i ty) = ap (λ k. OfTerm k ty) (omega arith)
 
 -- one more binding on the stack
-pub scope_of-push : (bindings : List code.Binding) (binding : code.Binding) →
-    scope_of (bindings ++ binding ∷ []) ≡ binding_of binding ∷ scope_of bindings
-scope_of-push bindings binding =
-    ap reverse (map-append binding_of bindings (binding ∷ []))
-    ∙ reverse-append (map binding_of bindings) (binding_of binding ∷ [])
+pub scope_of-push : (types : List Ty) (bindings : List code.Binding) (binding : code.Binding) →
+    scope_of types (bindings ++ binding ∷ []) ≡ binding_of types binding ∷ scope_of types bindings
+scope_of-push types bindings binding =
+    ap reverse (map-append (binding_of types) bindings (binding ∷ []))
+    ∙ reverse-append (map (binding_of types) bindings) (binding_of types binding ∷ [])
 
 -- the innermost of the bindings up to an index
-pub scope_of-taken : (items : List code.Binding) (i : ℕ) (b : code.Binding) → i < length items →
-    b ≡ get_or items i b → scope_of (take (i + 1) items) ≡ binding_of b ∷ scope_of (take i items)
-scope_of-taken items i b within is =
-    ap reverse (taken_next binding_of items i b within is)
-    ∙ reverse-append (map binding_of (take i items)) (binding_of b ∷ [])
+pub scope_of-taken : (types : List Ty) (items : List code.Binding) (i : ℕ) (b : code.Binding) →
+    i < length items → b ≡ get_or items i b →
+    scope_of types (take (i + 1) items) ≡ binding_of types b ∷ scope_of types (take i items)
+scope_of-taken types items i b within is =
+    ap reverse (taken_next (binding_of types) items i b within is)
+    ∙ reverse-append (map (binding_of types) (take i items)) (binding_of types b ∷ [])
 
 -- one step of the search, from a binding that is not of the name
 
@@ -62,27 +65,28 @@ here_term name bound ty outer same =
 -- ---- the search
 
 -- the innermost of the bindings that are left
-pub left_is : (items : List code.Binding) (left : ℕ) (b : code.Binding) → 0 < left →
-    left ≤ length items → b ≡ get_or items (left - 1) b →
-    scope_of (take left items) ≡ binding_of b ∷ scope_of (take (left - 1) items)
-left_is items left b some within is =
-    let next : left - 1 + 1 ≡ left = omega arith in
-    subst (λ k. scope_of (take k items) ≡ binding_of b ∷ scope_of (take (left - 1) items)) next
-    (scope_of-taken items (left - 1) b (omega arith) is)
+module _ (types : List Ty) (items : List code.Binding) (left : ℕ) (b : code.Binding)
+    (some : 0 < left) (within : left ≤ length items) (is : b ≡ get_or items (left - 1) b)
+  where
+    pub left_is : scope_of types (take left items)
+        ≡ binding_of types b ∷ scope_of types (take (left - 1) items)
+    left_is =
+        let next : left - 1 + 1 ≡ left = omega arith in
+        subst (λ k. scope_of types (take k items)
+        ≡ binding_of types b ∷ scope_of types (take (left - 1) items)) next
+        (scope_of-taken types items (left - 1) b (omega arith) is)
 
-pub left_type : (items : List code.Binding) (left : ℕ) (b : code.Binding) → 0 < left →
-    left ≤ length items → b ≡ get_or items (left - 1) b → b.ty ≡ None →
-    scope_of (take left items) ≡ TypeVariable b.name.now ∷ scope_of (take (left - 1) items)
-left_type items left b some within is kind =
-    left_is items left b some within is
-    ∙ ap (λ ty. named_binding b.name.now ty ∷ scope_of (take (left - 1) items)) kind
+    pub left_type : b.ty ≡ None → scope_of types (take left items)
+        ≡ TypeVariable b.name.now ∷ scope_of types (take (left - 1) items)
+    left_type kind =
+        left_is
+        ∙ ap (λ ty. named_binding types b.name.now ty ∷ scope_of types (take (left - 1) items)) kind
 
-pub left_term : (items : List code.Binding) (left : ℕ) (b : code.Binding) (ty : Ty) → 0 < left →
-    left ≤ length items → b ≡ get_or items (left - 1) b → b.ty ≡ Some ty →
-    scope_of (take left items) ≡ TermVariable b.name.now ty ∷ scope_of (take (left - 1) items)
-left_term items left b ty some within is kind =
-    left_is items left b some within is
-    ∙ ap (λ ty. named_binding b.name.now ty ∷ scope_of (take (left - 1) items)) kind
+    pub left_term : (id : TypeId) → b.ty ≡ Some id → scope_of types (take left items)
+        ≡ TermVariable b.name.now (type_at types id) ∷ scope_of types (take (left - 1) items)
+    left_term id kind =
+        left_is
+        ∙ ap (λ ty. named_binding types b.name.now ty ∷ scope_of types (take (left - 1) items)) kind
 
 -- what a search has found that stands before a binding
 module _ (scope outer inner : Scope) (name : List ℕ) (terms : ℕ)
@@ -147,6 +151,7 @@ type_variables_within [] = omega arith
 type_variables_within (TypeVariable name ∷ outer) = omega (arith, type_variables_within outer)
 type_variables_within (TermVariable name ty ∷ outer) = omega (arith, type_variables_within outer)
 
-pub length-scope_of : (bindings : List code.Binding) → length (scope_of bindings) ≡ length bindings
-length-scope_of bindings = length-reverse (map binding_of bindings)
-    ∙ length-map bindings binding_of
+pub length-scope_of : (types : List Ty) (bindings : List code.Binding) →
+    length (scope_of types bindings) ≡ length bindings
+length-scope_of types bindings =
+    length-reverse (map (binding_of types) bindings) ∙ length-map bindings (binding_of types)

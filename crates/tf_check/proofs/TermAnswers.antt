@@ -23,7 +23,7 @@ use Rattle.tf_check.specs.Terms.{Typed, no_term, TermReading, term_reading, type
 use Rattle.tf_check.specs.Signature.{symbol_named}
 use Rattle.tf_check.proofs.VisitLemmas.{clean-expect}
 use Rattle.tf_check.specs.Visited.{Visited, good, bad, expect, in_turn, ◌>>=◌, ◌>>◌}
-use Rattle.tf_check.proofs.AnswerLemmas.{answers-good, answers-bind, answers-stop, answers-then, answers-then_stop, answers-pass, answers-fail, answers-push, answers-in_turn_stop}
+use Rattle.tf_check.proofs.AnswerLemmas.{answers-good, answers-bind, answers-stop, answers-then, answers-then_stop, answers-pass, answers-fail, answers-failed, answers-push, answers-in_turn_stop}
 use Rattle.tf_check.proofs.SameLemmas.{equal_test, differs_test, tested_within, same_type-self, same_type-equal}
 
 -- a refusal, or want of memory
@@ -37,12 +37,6 @@ pub passed_on : {A : Type 0} (visit : Visited A) (answer : Result A TypeError) (
     IsErrAnd answer (λ error. error ≡ fault) → Answers visit (Err fault) → Answers visit answer
 passed_on visit (Ok a) fault is one = absurd is
 passed_on visit (Err error) fault is one = subst (λ e. Answers visit (Err e)) (sym is) one
-
-read_self : {A : Type 0} (xs : List A) (i : ℕ) (d : A) → i < length xs →
-    get_or xs i d ≡ get_or xs i (get_or xs i d)
-read_self [] i d within = absurd (omega arith)
-read_self (x ∷ xs) zero d within = refl
-read_self (x ∷ xs) (suc i) d within = read_self xs i d (omega arith)
 
 is_false : (b : Bool) → (b ≡ true → ⊥) → b ≡ false
 is_false true differs = absurd (differs refl)
@@ -100,131 +94,116 @@ module _ (entry : ℕ) (g : Signature) (scope : Scope) where
   type_count [] = refl
   type_count (part ∷ parts) = omega (arith, type_count parts)
 
-  -- as terms of declared types
-  abbrev pub place_visit : List Ty → Ty → RawTerm → Visited Term
-  place_visit types declared part =
-      term_in_place entry (instantiate types declared) ((term_reading entry g part).as_term scope)
+  -- as terms of the types of places
+  abbrev pub place_visit : Ty → RawTerm → Visited Term
+  place_visit place part = term_in_place entry place ((term_reading entry g part).as_term scope)
 
-  abbrev pub placed : List Ty → List Ty → List RawTerm → List (Visited Term)
-  placed types (ty ∷ declared) (part ∷ parts) = place_visit types ty part ∷ placed types declared parts
-  placed types [] parts = []
-  placed types (ty ∷ declared) [] = []
+  abbrev pub placed : List Ty → List RawTerm → List (Visited Term)
+  placed (place ∷ places) (part ∷ parts) = place_visit place part ∷ placed places parts
+  placed [] parts = []
+  placed (place ∷ places) [] = []
 
-  zipped : (types declared : List Ty) (parts : List RawTerm) →
+  abbrev pub places_visit : List Ty → List RawTerm → Visited (List Term)
+  places_visit places parts =
+      terms_in_places entry places (term_readings (map (term_reading entry g) parts) scope)
+
+  zipped : (places : List Ty) (parts : List RawTerm) →
       map (λ (place : Ty × Visited Typed). term_in_place entry place.0 place.1)
-      (zip (map (instantiate types) declared) (term_readings (map (term_reading entry g) parts) scope))
-      ≡ placed types declared parts
-  zipped types [] [] = refl
-  zipped types [] (part ∷ parts) = refl
-  zipped types (ty ∷ declared) [] = refl
-  zipped types (ty ∷ declared) (part ∷ parts) =
-      ap (λ visits. place_visit types ty part ∷ visits) (zipped types declared parts)
+      (zip places (term_readings (map (term_reading entry g) parts) scope))
+      ≡ placed places parts
+  zipped [] [] = refl
+  zipped [] (part ∷ parts) = refl
+  zipped (place ∷ places) [] = refl
+  zipped (place ∷ places) (part ∷ parts) =
+      ap (λ visits. place_visit place part ∷ visits) (zipped places parts)
 
-  pub places_in_turn : (types declared : List Ty) (parts : List RawTerm) →
-      terms_in_places entry (map (instantiate types) declared)
-      (term_readings (map (term_reading entry g) parts) scope)
-      ≡ in_turn (placed types declared parts)
-  places_in_turn types declared parts = ap in_turn (zipped types declared parts)
+  pub places_in_turn : (places : List Ty) (parts : List RawTerm) →
+      places_visit places parts ≡ in_turn (placed places parts)
+  places_in_turn places parts = ap in_turn (zipped places parts)
 
-  module _ (types : List Ty) where
-    pub placed_next : (declared : List Ty) (parts : List RawTerm) (i : ℕ) (ty : Ty) (part : RawTerm) →
-        i < length declared → i < length parts → ty ≡ get_or declared i ty → part ≡ get_or parts i part →
-        placed types (take (i + 1) declared) (take (i + 1) parts)
-        ≡ placed types (take i declared) (take i parts) ++ place_visit types ty part ∷ []
-    placed_next [] parts i ty part within inside is at = absurd (omega arith)
-    placed_next (x ∷ declared) [] i ty part within inside is at = absurd (omega arith)
-    placed_next (x ∷ declared) (y ∷ parts) zero ty part within inside is at =
-        rw (is, at) refl
-    placed_next (x ∷ declared) (y ∷ parts) (suc i) ty part within inside is at =
-        let next : suc i + 1 ≡ suc (i + 1) = omega arith in
-        subst (λ k. placed types (take k (x ∷ declared)) (take k (y ∷ parts))
-        ≡ placed types (take (suc i) (x ∷ declared)) (take (suc i) (y ∷ parts)) ++ place_visit types ty part ∷ [])
-        (sym next)
-        (ap (λ zs. place_visit types x y ∷ zs)
-        (placed_next declared parts i ty part (omega arith) (omega arith) is at))
+  pub placed_next : (places : List Ty) (parts : List RawTerm) (i : ℕ) (place : Ty) (part : RawTerm) →
+      i < length places → i < length parts → place ≡ get_or places i place → part ≡ get_or parts i part →
+      placed (take (i + 1) places) (take (i + 1) parts)
+      ≡ placed (take i places) (take i parts) ++ place_visit place part ∷ []
+  placed_next [] parts i place part within inside is at = absurd (omega arith)
+  placed_next (x ∷ places) [] i place part within inside is at = absurd (omega arith)
+  placed_next (x ∷ places) (y ∷ parts) zero place part within inside is at = rw (is, at) refl
+  placed_next (x ∷ places) (y ∷ parts) (suc i) place part within inside is at =
+      let next : suc i + 1 ≡ suc (i + 1) = omega arith in
+      subst (λ k. placed (take k (x ∷ places)) (take k (y ∷ parts))
+      ≡ placed (take (suc i) (x ∷ places)) (take (suc i) (y ∷ parts)) ++ place_visit place part ∷ [])
+      (sym next)
+      (ap (λ zs. place_visit x y ∷ zs)
+      (placed_next places parts i place part (omega arith) (omega arith) is at))
 
-    pub placed_split : (declared : List Ty) (parts : List RawTerm) (i : ℕ) (ty : Ty) (part : RawTerm) →
-        i < length declared → i < length parts → ty ≡ get_or declared i ty → part ≡ get_or parts i part →
-        placed types declared parts
-        ≡ placed types (take i declared) (take i parts) ++ place_visit types ty part ∷ placed types (drop (i + 1) declared) (drop (i + 1) parts)
-    placed_split [] parts i ty part within inside is at = absurd (omega arith)
-    placed_split (x ∷ declared) [] i ty part within inside is at = absurd (omega arith)
-    placed_split (x ∷ declared) (y ∷ parts) zero ty part within inside is at =
-        rw (is, at) refl
-    placed_split (x ∷ declared) (y ∷ parts) (suc i) ty part within inside is at =
-        let next : suc i + 1 ≡ suc (i + 1) = omega arith in
-        subst (λ k. placed types (x ∷ declared) (y ∷ parts)
-        ≡ placed types (take (suc i) (x ∷ declared)) (take (suc i) (y ∷ parts))
-        ++ place_visit types ty part ∷ placed types (drop k (x ∷ declared)) (drop k (y ∷ parts)))
-        (sym next)
-        (ap (λ zs. place_visit types x y ∷ zs)
-        (placed_split declared parts i ty part (omega arith) (omega arith) is at))
+  pub placed_split : (places : List Ty) (parts : List RawTerm) (i : ℕ) (place : Ty) (part : RawTerm) →
+      i < length places → i < length parts → place ≡ get_or places i place → part ≡ get_or parts i part →
+      placed places parts
+      ≡ placed (take i places) (take i parts)
+      ++ place_visit place part ∷ placed (drop (i + 1) places) (drop (i + 1) parts)
+  placed_split [] parts i place part within inside is at = absurd (omega arith)
+  placed_split (x ∷ places) [] i place part within inside is at = absurd (omega arith)
+  placed_split (x ∷ places) (y ∷ parts) zero place part within inside is at = rw (is, at) refl
+  placed_split (x ∷ places) (y ∷ parts) (suc i) place part within inside is at =
+      let next : suc i + 1 ≡ suc (i + 1) = omega arith in
+      subst (λ k. placed (x ∷ places) (y ∷ parts)
+      ≡ placed (take (suc i) (x ∷ places)) (take (suc i) (y ∷ parts))
+      ++ place_visit place part ∷ placed (drop k (x ∷ places)) (drop k (y ∷ parts)))
+      (sym next)
+      (ap (λ zs. place_visit x y ∷ zs)
+      (placed_split places parts i place part (omega arith) (omega arith) is at))
 
-    -- the visits up to an index, and the next
-    pub place_next : (declared : List Ty) (parts : List RawTerm) (i : ℕ) (ty : Ty) (part : RawTerm)
-        (terms : List Term) (a : Term) → i < length declared → i < length parts →
-        ty ≡ get_or declared i ty → part ≡ get_or parts i part →
-        Answers (in_turn (placed types (take i declared) (take i parts))) (Ok terms) →
-        Answers (place_visit types ty part) (Ok a) →
-        Answers (in_turn (placed types (take (i + 1) declared) (take (i + 1) parts))) (Ok (terms ++ a ∷ []))
-    place_next declared parts i ty part terms a within inside is at before one =
-        subst (λ visits. Answers (in_turn visits) (Ok (terms ++ a ∷ [])))
-        (sym (placed_next declared parts i ty part within inside is at))
-        (answers-push (placed types (take i declared) (take i parts)) (place_visit types ty part) terms a
-        before one)
+  -- the visits up to an index, and the next
+  module _ (places : List Ty) (parts : List RawTerm) (i : ℕ) (terms : List Term)
+      (before : Answers (in_turn (placed (take i places) (take i parts))) (Ok terms))
+    where
+      module _ (place : Ty) (part : RawTerm) (within : i < length places) (inside : i < length parts)
+          (is : place ≡ get_or places i place) (at : part ≡ get_or parts i part)
+        where
+          pub place_next : (a : Term) → Answers (place_visit place part) (Ok a) →
+              Answers (in_turn (placed (take (i + 1) places) (take (i + 1) parts))) (Ok (terms ++ a ∷ []))
+          place_next a one =
+              subst (λ visits. Answers (in_turn visits) (Ok (terms ++ a ∷ [])))
+              (sym (placed_next places parts i place part within inside is at))
+              (answers-push (placed (take i places) (take i parts)) (place_visit place part) terms a
+              before one)
 
-    pub place_break : (declared : List Ty) (parts : List RawTerm) (i : ℕ) (ty : Ty) (part : RawTerm)
-        (terms : List Term) (fault : TypeError) → i < length declared → i < length parts →
-        ty ≡ get_or declared i ty → part ≡ get_or parts i part →
-        Answers (in_turn (placed types (take i declared) (take i parts))) (Ok terms) →
-        Answers (place_visit types ty part) (Err fault) →
-        Answers (terms_in_places entry (map (instantiate types) declared)
-        (term_readings (map (term_reading entry g) parts) scope)) (Err fault)
-    place_break declared parts i ty part terms fault within inside is at before one =
-        subst (λ visit. Answers visit (Err fault)) (sym (places_in_turn types declared parts))
-        (subst (λ visits. Answers (in_turn visits) (Err fault))
-        (sym (placed_split declared parts i ty part within inside is at))
-        (answers-in_turn_stop (placed types (take i declared) (take i parts)) (place_visit types ty part)
-        (placed types (drop (i + 1) declared) (drop (i + 1) parts)) terms fault before one))
+          pub place_break : (fault : TypeError) → Answers (place_visit place part) (Err fault) →
+              Answers (places_visit places parts) (Err fault)
+          place_break fault one =
+              subst (λ visit. Answers visit (Err fault)) (sym (places_in_turn places parts))
+              (subst (λ visits. Answers (in_turn visits) (Err fault))
+              (sym (placed_split places parts i place part within inside is at))
+              (answers-in_turn_stop (placed (take i places) (take i parts)) (place_visit place part)
+              (placed (drop (i + 1) places) (drop (i + 1) parts)) terms fault before one))
 
-    pub term_break : (declared : List Ty) (parts : List RawTerm) (i : ℕ) (part : RawTerm)
-        (terms : List Term) (fault : TypeError) → i < length declared → i < length parts →
-        part ≡ get_or parts i part →
-        Answers (in_turn (placed types (take i declared) (take i parts))) (Ok terms) →
-        Answers ((term_reading entry g part).as_term scope) (Err fault) →
-        Answers (terms_in_places entry (map (instantiate types) declared)
-        (term_readings (map (term_reading entry g) parts) scope)) (Err fault)
-    term_break declared parts i part terms fault within inside at before one =
-        let ty : Ty = get_or declared i (type.Var 0) in
-        place_break declared parts i ty part terms fault within inside
-        (read_self declared i (type.Var 0) within) at before
-        (answers-stop ((term_reading entry g part).as_term scope)
-        (λ typed. expect (same_type (instantiate types ty) typed.1) (Mismatch entry (instantiate types ty) typed.1)
-        >> good typed.0) fault one)
+          pub term_break : (fault : TypeError) →
+              Answers ((term_reading entry g part).as_term scope) (Err fault) →
+              Answers (places_visit places parts) (Err fault)
+          term_break fault one =
+              place_break fault
+              (answers-stop ((term_reading entry g part).as_term scope)
+              (λ typed. expect (same_type place typed.1) (Mismatch entry place typed.1) >> good typed.0)
+              fault one)
 
-    pub places_whole : (declared : List Ty) (parts : List RawTerm) (i : ℕ) (terms : List Term) →
-        length declared ≤ i → length parts ≤ i →
-        Answers (in_turn (placed types (take i declared) (take i parts))) (Ok terms) →
-        Answers (terms_in_places entry (map (instantiate types) declared)
-        (term_readings (map (term_reading entry g) parts) scope)) (Ok terms)
-    places_whole declared parts i terms past behind before =
-        subst (λ visit. Answers visit (Ok terms)) (sym (places_in_turn types declared parts))
-        (subst (λ tys. Answers (in_turn (placed types tys parts)) (Ok terms)) (take_all i declared past)
-        (subst (λ ps. Answers (in_turn (placed types (take i declared) ps)) (Ok terms))
-        (take_all i parts behind) before))
+      pub places_whole : length places ≤ i → length parts ≤ i →
+          Answers (places_visit places parts) (Ok terms)
+      places_whole past behind =
+          subst (λ visit. Answers visit (Ok terms)) (sym (places_in_turn places parts))
+          (subst (λ tys. Answers (in_turn (placed tys parts)) (Ok terms)) (take_all i places past)
+          (subst (λ ps. Answers (in_turn (placed (take i places) ps)) (Ok terms))
+          (take_all i parts behind) before))
 
-  -- at equal types
-  pub terms_seen : (types others declared places : List Ty) (parts : List RawTerm)
-      (answer : Result (List Term) TypeError) → others ≡ types → places ≡ declared →
-      Answers (terms_in_places entry (map (instantiate others) places)
-      (term_readings (map (term_reading entry g) parts) scope)) answer →
-      Answers (terms_in_places entry (map (instantiate types) declared)
-      (term_readings (map (term_reading entry g) parts) scope)) answer
-  terms_seen types others declared places parts answer first second one =
-      subst (λ ts. Answers (terms_in_places entry (map (instantiate ts) declared)
-      (term_readings (map (term_reading entry g) parts) scope)) answer) first
-      (subst (λ ds. Answers (terms_in_places entry (map (instantiate others) ds)
-      (term_readings (map (term_reading entry g) parts) scope)) answer) second one)
+  -- at equal types, under equal names
+  pub terms_seen : (names : Scope) (others places : List Ty) (parts : List RawTerm)
+      (answer : Result (List Term) TypeError) → names ≡ scope → others ≡ places →
+      Answers (terms_in_places entry others
+      (term_readings (map (term_reading entry g) parts) names)) answer →
+      Answers (places_visit places parts) answer
+  terms_seen names others places parts answer same equal one =
+      subst (λ tys. Answers (places_visit tys parts) answer) equal
+      (subst (λ s. Answers (terms_in_places entry others
+      (term_readings (map (term_reading entry g) parts) s)) answer) same one)
 
   -- ---- a term in its place
 
@@ -247,16 +226,17 @@ module _ (entry : ℕ) (g : Signature) (scope : Scope) where
         (subst (λ other. same_type expected other ≡ true) same (same_type-self expected)))
         (answers-good a))
 
-    pub place_mismatch : (a : Term) (ty : Ty) → Answers visit (Ok (a, ty)) → (expected ≡ ty → ⊥) →
-        Answers (term_in_place entry expected visit) (Err (Mismatch entry expected ty))
-    place_mismatch a ty one differs =
+    pub place_refused : (a : Term) (ty : Ty) → Answers visit (Ok (a, ty)) → (expected ≡ ty → ⊥) →
+        (error : TypeError) → IsFirst (Mismatch entry expected ty ∷ []) error →
+        Answers (term_in_place entry expected visit) (Err error)
+    place_refused a ty one differs error first =
         answers-bind visit
         (λ typed. expect (same_type expected typed.1) (Mismatch entry expected typed.1) >> good typed.0)
-        (a, ty) (Err (Mismatch entry expected ty)) one
+        (a, ty) (Err error) one
         (answers-then_stop (expect (same_type expected ty) (Mismatch entry expected ty)) (good a)
-        (Mismatch entry expected ty)
-        (answers-fail (same_type expected ty) (Mismatch entry expected ty)
-        (is_false (same_type expected ty) (λ same. differs (same_type-equal expected ty same)))))
+        error
+        (answers-failed (same_type expected ty) (Mismatch entry expected ty) error
+        (is_false (same_type expected ty) (λ same. differs (same_type-equal expected ty same))) first))
 
     -- the rest of the visit, behind the term
     pub place_behind : (a : Typed) (answer : Result Term TypeError) → Answers visit (Ok a) →

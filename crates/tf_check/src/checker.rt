@@ -1,9 +1,10 @@
 //! The checker: three passes over a file.
 
-ghost use Rattle.std.specs.Prelude.{◌≡◌, ◌≤◌, false, IfOk, IfErr, OnOk};
+ghost use Rattle.std.specs.Prelude.{◌≡◌, ◌≤◌, false, [], IfOk, IfErr, OnOk};
 ghost use Rattle.tf_core.specs.Sound.{IsSound};
 ghost use Rattle.tptp_syntax.specs.FileSizes.{formula_nodes, file_size};
 ghost use Rattle.tf_check.specs.Answers.{Answers, IsFirst};
+ghost use Rattle.tf_check.specs.Bound.{IsReady, Keeps};
 ghost use Rattle.tf_check.specs.Entries.{statements, statement_at};
 ghost use Rattle.tf_check.specs.Faults.{faults, is_conjecture as states_conjecture, role_of as core_role, visited_statement, visited_statements};
 ghost use Rattle.tf_check.specs.Limits.{IsWithin, most_nodes};
@@ -18,6 +19,7 @@ use crate::declarations::{declare_constructors, declare_symbols};
 use crate::error::TypeError;
 use crate::formulas::{formula_of, prefix_types};
 use crate::names::add_formula;
+use crate::numbers::scope_over;
 use crate::scope::Scope;
 use crate::table::Table;
 use enc_base::{List, Name, NoMemory};
@@ -72,6 +74,7 @@ fn statements_of(alloc: Global, table: &Table, entries: &[Entry]) -> Result<List
 {
     let mut formulas = List::new(alloc);
     let mut conjectured = false;
+    let mut scope = scope_over(alloc, table)?;
     for (i, entry) in entries.iter().enumerate() {
         match entry {
             Entry::Declaration { .. } => {}
@@ -85,7 +88,7 @@ fn statements_of(alloc: Global, table: &Table, entries: &[Entry]) -> Result<List
                     entry: i,
                     table,
                 };
-                let stated = statement_of(&context, conjectured, name, *role, formula)?;
+                let stated = statement_of(&context, conjectured, name, *role, formula, &mut scope)?;
                 formulas.push(stated)?;
                 conjectured = conjectured || is_conjecture(*role);
             }
@@ -115,26 +118,29 @@ fn role_of(role: StatedRole) -> Role
 }
 
 /// A statement behind others, among which is a conjecture or not.
-fn statement_of(
+fn statement_of<'a>(
     context: &Context,
     conjectured: bool,
     label: &Name,
     role: StatedRole,
-    formula: &RawFormula,
+    formula: &'a RawFormula,
+    scope: &mut Scope<'a>,
 ) -> Result<Stated, TypeError>
-    requires { formula_nodes formula.now ≤ most_nodes }
-    ensures { Answers
+    requires size { formula_nodes formula.now ≤ most_nodes }
+    requires ready { IsReady context.now scope.old }
+    requires unbound { scope.old.names ≡ [] }
+    ensures exact { Answers
         (visited_statement context.now.table.now conjectured
         (statement_at context.now.entry label.now role formula.now))
         result }
+    ensures kept { OnOk result (Keeps scope.old scope.new) }
 {
     if conjectured && is_conjecture(role) {
         return Err(TypeError::SecondConjecture {
             entry: context.entry,
         });
     }
-    let mut scope = Scope::new(context.alloc);
-    let body = formula_of(context, formula, true, &mut scope)?;
+    let body = formula_of(context, formula, true, scope)?;
     Ok(Stated {
         name: label.copy(context.alloc)?,
         role: role_of(role),

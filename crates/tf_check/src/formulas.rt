@@ -2,6 +2,7 @@
 
 ghost use Rattle.std.specs.Prelude.{◌≡◌, ◌+◌, ◌≤◌, false, length, map, sum, OnOk};
 ghost use Rattle.tf_check.specs.Answers.{Answers, map_ok};
+ghost use Rattle.tf_check.specs.Bound.{IsReady, Grows, Keeps};
 ghost use Rattle.tf_check.specs.Context.{formula_in};
 ghost use Rattle.tf_check.specs.Core.{maker, joiner, binders_of};
 ghost use Rattle.tf_check.specs.Formulas.{variable_type as type_visit, binders as binders_visit, quantified as quantified_by, equation as equation_visit, inside_each, two as two_visit, quantifier as quantifier_visit, prefix_types as prefix_count, types_bound as bound_count};
@@ -13,7 +14,7 @@ use crate::context::Context;
 use crate::error::TypeError;
 use crate::kinds::binds_type;
 use crate::scope::Scope;
-use crate::terms::{atom_of, term_of};
+use crate::terms::{atom_of, mismatch, term_of};
 use crate::types::{individuals, type_of};
 use enc_base::{Boxed, List};
 use std::alloc::Global;
@@ -40,7 +41,9 @@ enum Connective {
 
 /// The type of a term variable. One without a type has `$i`.
 fn variable_type(context: &Context, kind: &Option<TypeExpr>, scope: &Scope) -> Result<Ty, TypeError>
-    ensures { Answers (type_visit context.now.entry context.now.table.now kind.now scope.now) result }
+    ensures { Answers
+        (type_visit context.now.entry context.now.table.now kind.now scope.now.names)
+        result }
 {
     match kind {
         None => Ok(individuals(context)),
@@ -56,9 +59,11 @@ fn binders<'a>(
     bounds: &'a [Bound],
     scope: &mut Scope<'a>,
 ) -> Result<List<Ty>, TypeError>
-    requires { length scope.old + length bounds.now ≤ most_nodes }
-    ensures { Answers (binders_visit context.now.entry context.now.table.now leading bounds.now scope.old)
-        (map_ok (binders_of scope.new) result) }
+    requires { length scope.old.names + length bounds.now ≤ most_nodes }
+    ensures exact { Answers
+        (binders_visit context.now.entry context.now.table.now leading bounds.now scope.old.names)
+        (map_ok (binders_of scope.new.names) result) }
+    ensures grows { OnOk result (Grows scope.old scope.new) }
 {
     let mut types = List::new(context.alloc);
     for bound in bounds {
@@ -71,8 +76,8 @@ fn binders<'a>(
             scope.bind_type(bound.name.as_slice())?;
         } else {
             let ty = variable_type(context, &bound.kind, scope)?;
-            types.push(ty.copy(context.alloc)?)?;
-            scope.bind_term(bound.name.as_slice(), ty)?;
+            scope.bind_term(bound.name.as_slice(), &ty)?;
+            types.push(ty)?;
         }
     }
     Ok(types)
@@ -104,23 +109,21 @@ fn equation(
     context: &Context,
     left: &RawTerm,
     right: &RawTerm,
-    scope: &Scope,
+    scope: &mut Scope,
 ) -> Result<Formula, TypeError>
-    ensures { Answers
+    requires { IsReady context.now scope.old }
+    ensures exact { Answers
         (equation_visit context.now.entry context.now.table.now (λ body. body) left.now right.now
-        scope.now)
+        scope.old.names)
         result }
+    ensures kept { OnOk result (Keeps scope.old scope.new) }
 {
     let (a, expected) = term_of(context, left, scope)?;
     let (b, found) = term_of(context, right, scope)?;
-    if expected.same(&found) {
-        Ok(Formula::Equal(expected, a, b))
+    if scope.same(expected, found) {
+        Ok(Formula::Equal(scope.tree_of(expected)?, a, b))
     } else {
-        Err(TypeError::Mismatch {
-            entry: context.entry,
-            expected,
-            found,
-        })
+        Err(mismatch(context, scope, expected, found))
     }
 }
 
@@ -146,9 +149,10 @@ pub(crate) fn formula_of<'a>(
     leading: bool,
     scope: &mut Scope<'a>,
 ) -> Result<Formula, TypeError>
-    requires { length scope.old + formula_nodes raw.now ≤ most_nodes }
-    ensures exact { Answers (formula_in context.now raw.now leading scope.old) result }
-    ensures kept { OnOk result (scope.new ≡ scope.old) }
+    requires ready { IsReady context.now scope.old }
+    requires size { length scope.old.names + formula_nodes raw.now ≤ most_nodes }
+    ensures exact { Answers (formula_in context.now raw.now leading scope.old.names) result }
+    ensures kept { OnOk result (Keeps scope.old scope.new) }
 {
     match raw {
         RawFormula::True => Ok(Formula::True),
@@ -198,9 +202,10 @@ fn part_of<'a>(
     raw: &'a RawFormula,
     scope: &mut Scope<'a>,
 ) -> Result<Boxed<Formula>, TypeError>
-    requires { length scope.old + formula_nodes raw.now ≤ most_nodes }
-    ensures exact { Answers (formula_in context.now raw.now false scope.old) result }
-    ensures kept { OnOk result (scope.new ≡ scope.old) }
+    requires ready { IsReady context.now scope.old }
+    requires size { length scope.old.names + formula_nodes raw.now ≤ most_nodes }
+    ensures exact { Answers (formula_in context.now raw.now false scope.old.names) result }
+    ensures kept { OnOk result (Keeps scope.old scope.new) }
 {
     let part = formula_of(context, raw, false, scope)?;
     Ok(Boxed::new(context.alloc, part)?)
@@ -213,9 +218,12 @@ fn parts_of<'a>(
     raws: &'a [RawFormula],
     scope: &mut Scope<'a>,
 ) -> Result<List<Formula>, TypeError>
-    requires { length scope.old + sum (map formula_nodes raws.now) ≤ most_nodes }
-    ensures exact { Answers (in_turn (inside_each (map (formula_in context.now) raws.now) scope.old)) result }
-    ensures kept { OnOk result (scope.new ≡ scope.old) }
+    requires ready { IsReady context.now scope.old }
+    requires size { length scope.old.names + sum (map formula_nodes raws.now) ≤ most_nodes }
+    ensures exact { Answers
+        (in_turn (inside_each (map (formula_in context.now) raws.now) scope.old.names))
+        result }
+    ensures kept { OnOk result (Keeps scope.old scope.new) }
 {
     let mut parts = List::new(context.alloc);
     for raw in raws {
@@ -233,12 +241,13 @@ fn two<'a>(
     right: &'a RawFormula,
     scope: &mut Scope<'a>,
 ) -> Result<Formula, TypeError>
-    requires { length scope.old + (formula_nodes left.now + formula_nodes right.now) ≤ most_nodes }
+    requires ready { IsReady context.now scope.old }
+    requires size { length scope.old.names + (formula_nodes left.now + formula_nodes right.now) ≤ most_nodes }
     ensures exact { Answers
         (two_visit context.now.entry context.now.table.now (joiner connective)
-        (formula_in context.now left.now) (formula_in context.now right.now) scope.old)
+        (formula_in context.now left.now) (formula_in context.now right.now) scope.old.names)
         result }
-    ensures kept { OnOk result (scope.new ≡ scope.old) }
+    ensures kept { OnOk result (Keeps scope.old scope.new) }
 {
     let a = part_of(context, left, scope)?;
     let b = part_of(context, right, scope)?;
@@ -255,12 +264,13 @@ fn quantifier_of<'a>(
     body: &'a RawFormula,
     scope: &mut Scope<'a>,
 ) -> Result<Formula, TypeError>
-    requires { length scope.old + (length bounds.now + formula_nodes body.now) ≤ most_nodes }
+    requires ready { IsReady context.now scope.old }
+    requires size { length scope.old.names + (length bounds.now + formula_nodes body.now) ≤ most_nodes }
     ensures exact { Answers
         (quantifier_visit context.now.entry context.now.table.now (maker quantifier) leading
-        bounds.now (formula_in context.now body.now) scope.old)
+        bounds.now (formula_in context.now body.now) scope.old.names)
         result }
-    ensures kept { OnOk result (scope.new ≡ scope.old) }
+    ensures kept { OnOk result (Keeps scope.old scope.new) }
 {
     let outer = scope.len();
     let types = binders(context, leading, bounds, scope)?;

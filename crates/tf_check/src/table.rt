@@ -1,6 +1,7 @@
 //! The signature of a file while it is gathered: names with their places.
 
-ghost use Rattle.std.specs.Prelude.{◌≡◌, ◌↔◌, ◌≤◌, ◌<◌, ◌++◌, ◌∷◌, [], length, nat_le, IsTrue, replicate, is_some, IfOk, OnOk, IfSome, None};
+ghost use Rattle.std.specs.Prelude.{◌≡◌, ◌↔◌, ◌≤◌, ◌<◌, ◌++◌, ◌∷◌, [], length, nat_le, IsTrue, replicate, is_some, slice_get, IfOk, OnOk, IfSome, Some, None};
+ghost use Rattle.tf_check.specs.Bound.{symbol_types, types_of_symbols};
 ghost use Rattle.tf_check.specs.Terms.{number_of, most_symbols};
 ghost use Rattle.std.specs.Option.{option_map};
 ghost use Rattle.tf_check.specs.Names.{parameters_in};
@@ -119,6 +120,15 @@ impl<'a> Table<'a> {
         ensures { result ≡ length self.now.symbols }
     {
         self.symbols.len()
+    }
+
+    /// The type of the symbol at the place.
+    pub(crate) fn profile(&self, place: usize) -> &Profile
+        requires { place < length self.now.symbols }
+        ensures { slice_get (types_of_symbols self.now) place
+            ≡ Some (symbol_types result.now.arguments result.now.result) }
+    {
+        &self.symbols[place]
     }
 
     /// Whether the number of the symbol at the place is allowed: its number among all names,

@@ -29,7 +29,7 @@ pub(crate) fn individuals(context: &Context) -> Ty
 /// A variable in the place of a type.
 pub(crate) fn type_variable(context: &Context, name: &Name, scope: &Scope) -> Result<Ty, TypeError>
     ensures { Answers
-        (variable_visit context.now.entry name.now (meaning scope.now name.now))
+        (variable_visit context.now.entry name.now (meaning scope.now.names name.now))
         result }
 {
     match scope.meaning(name.as_slice()) {
@@ -79,7 +79,7 @@ pub(crate) fn type_of(
     expression: &TypeExpr,
     scope: &Scope,
 ) -> Result<Ty, TypeError>
-    ensures { Answers ((type_in context.now expression.now).as_type scope.now) result }
+    ensures { Answers ((type_in context.now expression.now).as_type scope.now.names) result }
 {
     match expression {
         TypeExpr::Variable(name) => type_variable(context, name, scope),
@@ -99,7 +99,7 @@ pub(crate) fn type_of(
 #[cycle(type_of)]
 fn types_of(context: &Context, parts: &[TypeExpr], scope: &Scope) -> Result<List<Ty>, TypeError>
     ensures { Answers
-        (in_turn (types_of_all (map (type_in context.now) parts.now) scope.now))
+        (in_turn (types_of_all (map (type_in context.now) parts.now) scope.now.names))
         result }
 {
     let mut types = List::new(context.alloc);
@@ -115,7 +115,7 @@ fn result_of(
     expression: &TypeExpr,
     scope: &Scope,
 ) -> Result<Option<Ty>, TypeError>
-    ensures { Answers ((type_in context.now expression.now).as_result scope.now) result }
+    ensures { Answers ((type_in context.now expression.now).as_result scope.now.names) result }
 {
     match expression {
         TypeExpr::Truth => Ok(None),
@@ -132,7 +132,7 @@ fn arguments_of(
     types: &mut List<Ty>,
 ) -> Result<(), TypeError>
     ensures { Answers
-        (appended types.old ((type_in context.now expression.now).as_arguments scope.now))
+        (appended types.old ((type_in context.now expression.now).as_arguments scope.now.names))
         (with_value result types.new) }
 {
     match expression {
@@ -153,7 +153,7 @@ fn arguments_of_all(
     types: &mut List<Ty>,
 ) -> Result<(), TypeError>
     ensures { Answers
-        (appended types.old (arguments_visit (map (type_in context.now) parts.now) scope.now))
+        (appended types.old (arguments_visit (map (type_in context.now) parts.now) scope.now.names))
         (with_value result types.new) }
 {
     for part in parts {
@@ -168,12 +168,12 @@ fn bind_parameters<'a>(
     bounds: &'a [Bound],
     scope: &mut Scope<'a>,
 ) -> Result<(), TypeError>
-    requires { length scope.old + length bounds.now ≤ most_nodes }
+    requires { length scope.old.names + length bounds.now ≤ most_nodes }
     ensures { Answers
         (parameters_visit context.now.entry
         (map (bound_reading context.now.entry context.now.table.now.constructors) bounds.now)
-        scope.old)
-        (with_value result scope.new) }
+        scope.old.names)
+        (with_value result scope.new.names) }
 {
     for bound in bounds {
         if !binds_type(bound) {
@@ -192,8 +192,8 @@ pub(crate) fn profile_of<'a>(
     body: &'a TypeExpr,
     scope: &mut Scope<'a>,
 ) -> Result<Profile, TypeError>
-    requires { length scope.old + type_nodes body.now ≤ most_nodes }
-    ensures { (name : Seq ℕ) → Answers ((type_in context.now body.now).as_symbol name scope.old)
+    requires { length scope.old.names + type_nodes body.now ≤ most_nodes }
+    ensures { (name : Seq ℕ) → Answers ((type_in context.now body.now).as_symbol name scope.old.names)
         (map_ok (named_profile name) result) }
 {
     match body {

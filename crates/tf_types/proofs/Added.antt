@@ -1,5 +1,5 @@
 -- A node put into the table, and what the table is then.
-use Rattle.std.specs.Prelude.{ℕ, ◌≡◌, true, List, slice_get, Option, Some, None, IfSome}
+use Rattle.std.specs.Prelude.{ℕ, ◌≡◌, Bool, true, List, slice_get, Option, Some, None, IfSome}
 use Rattle.std.specs.Map.{lookup}
 use Rattle.std.proofs.Common.{sym, ap, subst, ◌∙◌}
 use Rattle.indexmap.specs.IndexSet.{insert_key}
@@ -9,9 +9,10 @@ use Rattle.tf_types.specs.declared.node.Node.{Node}
 use Rattle.tf_types.specs.declared.node.Asked.{Asked}
 use Rattle.tf_types.specs.Numbers.{Extends}
 use Rattle.tf_types.specs.Nodes.{given, types_of, IsFormed, AreNumbered}
-use Rattle.tf_types.specs.Instances.{IsInstance, AreInstances}
+use Rattle.tf_types.specs.Instances.{IsInstance, AreInstances, AreGround}
 use Rattle.tf_types.proofs.EqualKeys.{eq_node, same_node, node_itself, eq_asked, same_asked}
 use Rattle.tf_types.proofs.Nodes.{IsInserted, IsInserted-insert_key}
+use Rattle.tf_types.proofs.Ground.{AreGround-extended}
 use Rattle.tf_types.proofs.Instances.{AreInstances-extended, IsInstance-found}
 
 module _ (nodes new : List Node) (types : List Ty) (node : Node) (view : types_of nodes ≡ types)
@@ -39,6 +40,11 @@ module _ (nodes new : List Node) (types : List Ty) (node : Node) (view : types_o
         AreInstances (types_of new) entries
     added_instances entries instances =
         AreInstances-extended (types_of nodes) (types_of new) added.grows entries instances
+
+    pub added_ground : (noted : List Bool) → AreGround (types_of nodes) noted →
+        AreGround (types_of new) noted
+    added_ground noted ground =
+        AreGround-extended (types_of nodes) noted ground (types_of new) added.grows
 
 pub IfSome-IsInstance : (types : List Ty) (asked : Asked) (entries : List (Asked × TypeId)) →
     AreInstances types entries → (found : Option TypeId) →

@@ -11,3 +11,5 @@ pub mod Matches
 pub mod MatchedLists
 pub mod Replaced
 pub mod MatchLaws
+pub mod Ground
+pub mod Found

@@ -188,7 +188,7 @@ module _ (nodes : List Node) (types : List Ty) (node : Node) (numbered : AreNumb
     grows = (given types node ∷ [], refl)
 
     -- no type stands for the node
-    absent_type : ((k : ℕ) → slice_get nodes k ≡ Some node → ⊥) → (k : ℕ) →
+    pub absent_type : ((k : ℕ) → slice_get nodes k ≡ Some node → ⊥) → (k : ℕ) →
         slice_get types k ≡ Some (given types node) → ⊥
     absent_type absent k at =
         let within : k < length nodes =

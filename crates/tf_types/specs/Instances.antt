@@ -1,5 +1,5 @@
 -- What a table keeps of instances.
-use Rattle.std.specs.Prelude.{List, []}
+use Rattle.std.specs.Prelude.{◌≡◌, ℕ, Bool, true, List, [], slice_get, Some}
 use Rattle.std.specs.List.{AllByRecursion}
 use Rattle.tf_core.specs.declared.ty.Ty.{Ty, out-Ty}
 use Rattle.tf_core.specs.declared.ty.Ty.TheOpen.{Ty-F}
@@ -26,3 +26,12 @@ IsInstance types asked made = IsNumber types asked.ty × IsNumber types asked.ty
 -- each entry is an instance with what it was asked by
 abbrev pub AreInstances : List Ty → List (Asked × TypeId) → Type 0
 AreInstances types = AllByRecursion (λ entry. IsInstance types entry.0 entry.1)
+
+-- a type without variables: each instance is the type itself
+abbrev pub IsGround : Ty → Type 0
+IsGround ty = (instances : List Ty) → instantiate instances ty ≡ ty
+
+-- what is noted to be without variables is so
+abbrev pub AreGround : List Ty → List Bool → Type 0
+AreGround types noted = (k : ℕ) → slice_get noted k ≡ Some true →
+    (ty : Ty) × (slice_get types k ≡ Some ty) × IsGround ty

@@ -1,13 +1,27 @@
 -- Numbers of types: a table is a list of types, and the type in place n has the number n.
-use Rattle.std.specs.Prelude.{◌≡◌, ◌<◌, ℕ, List, ◌++◌, length, get_or, slice_get, Some}
+use Rattle.std.specs.Prelude.{◌≡◌, ◌<◌, ℕ, List, [], ◌∷◌, ◌++◌, length, get_or, slice_get, Some}
 use Rattle.std.specs.List.{AllByRecursion}
 use Rattle.tf_core.specs.declared.ty.Ty.{Ty}
-use Rattle.tf_core.specs.declared.ty.Ty.TheVariants.{Var}
+use Rattle.tf_core.specs.declared.ty.Ty.TheVariants.{Var, Apply}
 use Rattle.tf_types.specs.declared.node.TypeId.{TypeId}
 
 -- the number denotes the type
 abbrev pub Denotes : List Ty → TypeId → Ty → Type 0
 Denotes types id ty = slice_get types id.index ≡ Some ty
+
+-- no number denotes the type
+abbrev pub IsAbsent : List Ty → Ty → Type 0
+IsAbsent types ty = (id : TypeId) → Denotes types id ty → ⊥
+
+-- some number denotes the type
+abbrev pub Stands : List Ty → Ty → Type 0
+Stands types ty = (id : TypeId) × Denotes types id ty
+
+-- With a type that is applied to arguments stand that with one argument less, and the last argument.
+abbrev pub HoldsParts : List Ty → Type 0
+HoldsParts types = (c : ℕ) (front : List Ty) (last : Ty) →
+    Stands types (Apply c (front ++ last ∷ [])) →
+    Stands types (Apply c front) × Stands types last
 
 -- the number is one of the table
 abbrev pub IsNumber : List Ty → TypeId → Type 0

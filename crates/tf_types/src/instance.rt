@@ -42,6 +42,9 @@ impl TypeTable {
         ensures kept { Extends self.old self.new }
         ensures one_to_one { IsOneToOne self.new }
     {
+        if self.is_ground(id) {
+            return Ok(id);
+        }
         let asked = Asked {
             ty: id,
             types: listed,

@@ -1,6 +1,7 @@
 //! Numbered types: a table in which each type stands once, and a number denotes it.
 #![tactic(auto)]
 
+mod find;
 mod instance;
 mod laws;
 mod matching;

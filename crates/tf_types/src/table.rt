@@ -1,8 +1,8 @@
-ghost use Rattle.std.specs.Prelude.{◌≡◌, ◌↔◌, [], IfOk, IfSome, IsTrue, length, map};
+ghost use Rattle.std.specs.Prelude.{◌≡◌, ◌↔◌, [], IfOk, IfSome, IsTrue, MatchOption, length, map};
 ghost use Rattle.tf_core.specs.declared.ty.Ty.TheVariants.{Var, Apply};
-ghost use Rattle.tf_types.specs.Numbers.{Denotes, Extends, IsNumber, AreNumbers, IsOneToOne, type_at};
+ghost use Rattle.tf_types.specs.Numbers.{Denotes, Extends, IsNumber, AreNumbers, IsOneToOne, type_at, IsAbsent, HoldsParts};
 ghost use Rattle.tf_types.specs.Nodes.{IsFormed, IsFormedBelow, IsApplication, given, with_argument};
-ghost use Rattle.tf_types.specs.Instances.{IsInstance};
+ghost use Rattle.tf_types.specs.Instances.{IsInstance, IsGround};
 
 use crate::node::{Asked, Node, TypeId};
 use enc_base::NoMemory;
@@ -16,6 +16,8 @@ use std::marker::Model;
 pub struct TypeTable {
     nodes: IndexSet<Node>,
     instances: IndexMap<Asked, TypeId>,
+    // for each number whether its type is noted to have no variables
+    ground: Vec<bool>,
     alloc: Global,
 }
 
@@ -25,7 +27,7 @@ impl Model for TypeTable {
     ghost use Rattle.tf_core.specs.contracts.ty.Ty as known;
     ghost use Rattle.std.specs.Coded.{codes};
     ghost use Rattle.tf_types.specs.Nodes.{types_of, AreNumbered};
-    ghost use Rattle.tf_types.specs.Instances.{AreInstances};
+    ghost use Rattle.tf_types.specs.Instances.{AreInstances, AreGround};
 
     ghost Value = { List Ty };
 
@@ -36,6 +38,7 @@ impl Model for TypeTable {
     ghost invariant = { λ table. record {
       numbered : AreNumbered table.nodes.keys (types_of table.nodes.keys);
       instances : AreInstances (types_of table.nodes.keys) table.instances.entries;
+      ground : AreGround (types_of table.nodes.keys) table.ground.items;
     } };
 }
 
@@ -48,6 +51,7 @@ impl TypeTable {
         TypeTable {
             nodes: IndexSet::new(alloc),
             instances: IndexMap::new(alloc),
+            ground: Vec::new(alloc),
             alloc,
         }
     }
@@ -136,6 +140,30 @@ impl TypeTable {
         self.nodes.as_slice()[id.index]
     }
 
+    /// Whether the number is noted as that of a type without variables. All are, unless memory was
+    /// wanting.
+    pub(crate) fn is_ground(&self, id: TypeId) -> bool
+        ensures { IsTrue result → IsGround (type_at self.now id) }
+    {
+        match self.ground.get(id.index) {
+            Some(ground) => *ground,
+            None => false,
+        }
+    }
+
+    // whether the node's parts are noted to have no variables, nor is it one
+    fn gives_ground(&self, node: Node) -> bool
+        requires { IsFormed self.now node }
+        ensures { IsTrue result → IsGround (given self.now node) }
+    {
+        match node {
+            Node::Variable(_) => false,
+            Node::Constructor(_) => true,
+            Node::Applied(function, argument) => self.is_ground(function)
+                && self.is_ground(argument),
+        }
+    }
+
     /// The instance that was asked for, if it was kept.
     pub(crate) fn kept_instance(&self, asked: Asked) -> Option<TypeId>
         ensures { IfSome result (IsInstance self.now asked) }
@@ -157,8 +185,40 @@ impl TypeTable {
         self.alloc
     }
 
-    // the number of the node, which is added if it is new
+    /// Where a type with one argument more stands in a table, the type does, and the argument.
+    pub(crate) fn each_part_stands(&self)
+        ensures { HoldsParts self.now }
+    {
+        let _ = &self.nodes;
+    }
+
+    /// The number of the node, where what it gives is in the table.
+    pub(crate) fn find_node(&self, node: Node) -> Option<TypeId>
+        requires { IsFormed self.now node }
+        ensures exact { MatchOption result (IsAbsent self.now (given self.now node))
+            (λ id. Denotes self.now id (given self.now node)) }
+    {
+        match self.nodes.get_index_of(&node) {
+            Some(index) => Some(TypeId { index }),
+            None => None,
+        }
+    }
+
+    // the number of the node, which is added if it is new, with whether its type has variables
     fn add(&mut self, node: Node) -> Result<TypeId, NoMemory>
+        requires { IsFormed self.old node }
+        ensures denoted { IfOk result (λ id. Denotes self.new id (given self.old node)) }
+        ensures kept { Extends self.old self.new }
+        ensures one_to_one { IsOneToOne self.new }
+    {
+        let ground = self.gives_ground(node);
+        let id = self.insert(node)?;
+        self.note_ground(id, ground)?;
+        Ok(id)
+    }
+
+    // the number of the node, which is added if it is new
+    fn insert(&mut self, node: Node) -> Result<TypeId, NoMemory>
         requires { IsFormed self.old node }
         ensures denoted { IfOk result (λ id. Denotes self.new id (given self.old node)) }
         ensures kept { Extends self.old self.new }
@@ -166,5 +226,17 @@ impl TypeTable {
     {
         let (index, _) = self.nodes.insert_full(node)?;
         Ok(TypeId { index })
+    }
+
+    // notes whether the type has variables, unless it is noted or an earlier note is missing
+    fn note_ground(&mut self, id: TypeId, ground: bool) -> Result<(), NoMemory>
+        requires number { IsNumber self.old id }
+        requires ground { IsTrue ground → IsGround (type_at self.old id) }
+        ensures kept { self.new ≡ self.old }
+    {
+        if id.index == self.ground.len() {
+            self.ground.push(ground)?;
+        }
+        Ok(())
     }
 }

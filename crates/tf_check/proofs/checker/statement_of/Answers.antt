@@ -8,15 +8,15 @@ use Rattle.tf_check.proofs.StatementLemmas.{stated_as, statement_second, stateme
 use Rattle.tf_check.proofs.checker.statement_of.Goals as goal
 use Rattle.tf_check.proofs.checker.statement_of.Goals.{else-conjectured-via-then-conjectured+else-is_conjecture, else-conjectured-via-else-conjectured}
 
-pub returns-then-is_conjecture : goal.returns-then-is_conjecture
-returns-then-is_conjecture c =
+pub returns-then-is_conjecture-clause-exact : goal.returns-then-is_conjecture-clause-exact
+returns-then-is_conjecture-clause-exact c =
     statement_second c.args.context.now.table.now c.args.conjectured
     (statement_at c.args.context.now.entry c.args.label.now c.args.role c.args.formula.now)
     (both_hold c.args.conjectured (is_conjecture c.args.role) c.if-conjectured.true
     (sym c.if-is_conjecture.ensures))
 
-pub returns-in_err-body : goal.returns-in_err-body
-returns-in_err-body c =
+pub returns-in_err-body-clause-exact : goal.returns-in_err-body-clause-exact
+returns-in_err-body-clause-exact c =
     let only : (c.args.conjectured && is_conjecture c.args.role) ≡ false =
     elim c.else-conjectured.branch [
       | else-conjectured-via-then-conjectured+else-is_conjecture w ↦
@@ -30,10 +30,10 @@ returns-in_err-body c =
     c.from_residual.result c.in_err-body.field-0.0 c.from_residual.ensures
     (statement_stop c.args.context.now.table.now c.args.conjectured
     (statement_at c.args.context.now.entry c.args.label.now c.args.role c.args.formula.now)
-    c.in_err-body.field-0.0 only (rw c.new-scope.ensures at c.in_err-body.ensures.exact))
+    c.in_err-body.field-0.0 only (rw c.requires.unbound at c.in_err-body.ensures.exact))
 
-pub returns : goal.returns
-returns c =
+pub returns-clause-exact : goal.returns-clause-exact
+returns-clause-exact c =
     let only : (c.args.conjectured && is_conjecture c.args.role) ≡ false =
     elim c.else-conjectured.branch [
       | else-conjectured-via-then-conjectured+else-is_conjecture w ↦
@@ -63,4 +63,4 @@ returns c =
     (Ok stated)) is
     (statement_done c.args.context.now.table.now c.args.conjectured
     (statement_at c.args.context.now.entry c.args.label.now c.args.role c.args.formula.now)
-    c.in_ok-body.body only (rw c.new-scope.ensures at c.in_ok-body.ensures.exact))
+    c.in_ok-body.body only (rw c.requires.unbound at c.in_ok-body.ensures.exact))

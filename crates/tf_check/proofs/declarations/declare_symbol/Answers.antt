@@ -13,14 +13,14 @@ returns-in_err-profile c =
     s.declares-on (visited_symbol (with_symbol g d) d) (with_symbol g d) g c.from_residual.result
     c.in_err-profile.field-0.0 c.from_residual.ensures
     (s.symbol_bad g d c.in_err-profile.field-0.0
-    (rw c.new-scope.ensures at (c.in_err-profile.ensures c.args.name.now)))
+    (rw c.new-scope.ensures.names at (c.in_err-profile.ensures c.args.name.now)))
 
 pub returns-then-is_some : goal.returns-then-is_some
 returns-then-is_some c =
     let d = declaration_at c.args.entry c.args.name.now c.args.body.now in
     let g = c.args.table.now in
     let symbol = named_profile c.args.name.now c.in_ok-profile.profile in
-    let visited = rw c.new-scope.ensures at (c.in_ok-profile.ensures c.args.name.now) in
+    let visited = rw c.new-scope.ensures.names at (c.in_ok-profile.ensures c.args.name.now) in
     let tested = rw (c.constructor.ensures.exact, c.as_slice.ensures) at c.is_some.ensures in
     s.declares-refused (visited_symbol (with_symbol g d) d) (with_symbol g d) g c.redeclared.result
     (s.symbol_hidden g d symbol refl visited c.is_some.result c.redeclared.result tested
@@ -32,7 +32,7 @@ returns-then-same c =
     let d = declaration_at c.args.entry c.args.name.now c.args.body.now in
     let g = c.args.table.now in
     let symbol = named_profile c.args.name.now c.in_ok-profile.profile in
-    let visited = rw c.new-scope.ensures at (c.in_ok-profile.ensures c.args.name.now) in
+    let visited = rw c.new-scope.ensures.names at (c.in_ok-profile.ensures c.args.name.now) in
     let tested = rw (c.constructor.ensures.exact, c.as_slice.ensures) at c.is_some.ensures in
     let first = named_profile c.args.name.now c.in-Some.first.now in
     let named = sym (rw c.as_slice-2.ensures at c.in-Some.ensures) in
@@ -50,7 +50,7 @@ returns-in-Some c =
     let d = declaration_at c.args.entry c.args.name.now c.args.body.now in
     let g = c.args.table.now in
     let symbol = named_profile c.args.name.now c.in_ok-profile.profile in
-    let visited = rw c.new-scope.ensures at (c.in_ok-profile.ensures c.args.name.now) in
+    let visited = rw c.new-scope.ensures.names at (c.in_ok-profile.ensures c.args.name.now) in
     let tested = rw (c.constructor.ensures.exact, c.as_slice.ensures) at c.is_some.ensures in
     let first = named_profile c.args.name.now c.in-Some.first.now in
     let named = sym (rw c.as_slice-2.ensures at c.in-Some.ensures) in
@@ -68,7 +68,7 @@ returns-in_err-expect_number-in-None c =
     let d = declaration_at c.args.entry c.args.name.now c.args.body.now in
     let g = c.args.table.now in
     let symbol = named_profile c.args.name.now c.in_ok-profile.profile in
-    let visited = rw c.new-scope.ensures at (c.in_ok-profile.ensures c.args.name.now) in
+    let visited = rw c.new-scope.ensures.names at (c.in_ok-profile.ensures c.args.name.now) in
     let tested = rw (c.constructor.ensures.exact, c.as_slice.ensures) at c.is_some.ensures in
     let none = sym (rw c.as_slice-2.ensures at c.in-None.ensures) in
     s.declares-on (visited_symbol (with_symbol g d) d) (with_symbol g d) g
@@ -83,7 +83,7 @@ returns c =
     let d = declaration_at c.args.entry c.args.name.now c.args.body.now in
     let g = c.args.table.now in
     let symbol = named_profile c.args.name.now c.in_ok-profile.profile in
-    let visited = rw c.new-scope.ensures at (c.in_ok-profile.ensures c.args.name.now) in
+    let visited = rw c.new-scope.ensures.names at (c.in_ok-profile.ensures c.args.name.now) in
     let tested = rw (c.constructor.ensures.exact, c.as_slice.ensures) at c.is_some.ensures in
     let none = sym (rw c.as_slice-2.ensures at c.in-None.ensures) in
     let number = rw c.symbol_count.ensures at c.in_ok-expect_number-in-None.ensures in

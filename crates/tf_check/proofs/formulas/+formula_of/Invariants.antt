@@ -1,6 +1,7 @@
 use Rattle.std.proofs.Common.{◌≡◌, ◌+◌, ◌*◌, map, sum, take, Ok}
 use Rattle.tptp_syntax.specs.FileSizes.{formula_nodes}
 use Rattle.tf_check.specs.Answers.{Answers}
+use Rattle.tf_check.specs.Bound.{Keeps}
 use Rattle.tf_check.specs.Visited.{in_turn}
 use Rattle.tf_check.proofs.FormulaAnswers.{part_visit}
 use Rattle.tf_check.proofs.formulas.+formula_of.Given as goal
@@ -24,7 +25,7 @@ decreases-quantifier_of l = 3 * formula_nodes l.body.now + 1
 abbrev pub invariant-parts_of-loop-raw : goal.invariant-parts_of-loop-raw
 invariant-parts_of-loop-raw l =
     Answers
-    (in_turn (map (part_visit l.context.entry l.context.table.now l.fn.scope)
+    (in_turn (map (part_visit l.context.entry l.context.table.now l.fn.scope.names)
     (take l.raw-index l.raws)))
     (Ok l.parts)
-    × (l.scope ≡ l.fn.scope)
+    × Keeps l.fn.scope l.scope

@@ -6,5 +6,5 @@ use Rattle.tf_check.proofs.terms.+type_argument.Given as goal
 
 abbrev pub invariant-type_arguments-loop-part : goal.invariant-type_arguments-loop-part
 invariant-type_arguments-loop-part l =
-    Answers (in_turn (map (λ part. (term_in l.context part).as_type l.scope) (take l.part-index l.parts)))
+    Answers (in_turn (map (λ part. (term_in l.context part).as_type l.scope.names) (take l.part-index l.parts)))
     (Ok l.types)

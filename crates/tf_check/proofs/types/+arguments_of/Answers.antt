@@ -11,11 +11,11 @@ pub arguments_of-returns-in_err-type_of-in_default :
 arguments_of-returns-in_err-type_of-in_default t c =
     answers-on_value
     (appended c.args.types.now
-    ((type_in c.args.context.now c.args.expression.now).as_arguments c.args.scope.now))
+    ((type_in c.args.context.now c.args.expression.now).as_arguments c.args.scope.now.names))
     c.from_residual.result c.args.types.now c.in_err-type_of-in_default.field-0.0
     c.from_residual.ensures
     (argument_stop c.args.context.now.entry c.args.context.now.table.now.constructors
-    c.args.scope.now
+    c.args.scope.now.names
     c.args.expression.now c.args.types.now c.in_err-type_of-in_default.field-0.0
     c.in_default.not-Product
     c.in_err-type_of-in_default.ensures)
@@ -33,24 +33,24 @@ pub arguments_of-returns-in_ok-push-in_default : goal.arguments_of-returns-in_ok
 arguments_of-returns-in_ok-push-in_default t c =
     rw c.in_ok-push-in_default.ensures.ok
     (argument_is c.args.context.now.entry c.args.context.now.table.now.constructors
-    c.args.scope.now
+    c.args.scope.now.names
     c.args.expression.now c.args.types.now c.in_ok-type_of-in_default.field-0
     c.in_default.not-Product
     c.in_ok-type_of-in_default.ensures)
 
 pub arguments_of_all-loop-part-init : goal.arguments_of_all-loop-part-init
-arguments_of_all-loop-part-init t c = arguments_none c.args.scope.now c.args.types.now
+arguments_of_all-loop-part-init t c = arguments_none c.args.scope.now.names c.args.types.now
 
 pub arguments_of_all-returns-in_err-arguments_of :
     goal.arguments_of_all-returns-in_err-arguments_of
 arguments_of_all-returns-in_err-arguments_of t c =
     answers-on_value
     (appended c.args.types.now
-    (arguments_of_all (map (type_in c.args.context.now) c.args.parts.now) c.args.scope.now))
+    (arguments_of_all (map (type_in c.args.context.now) c.args.parts.now) c.args.scope.now.names))
     c.from_residual.result c.arguments_of.new.types c.in_err-arguments_of.field-0.0
     c.from_residual.ensures
     (arguments_break c.args.context.now.entry c.args.context.now.table.now.constructors
-    c.args.scope.now
+    c.args.scope.now.names
     c.args.types.now c.loop-part.types c.args.parts.now c.loop-part.part-index c.part-item.result
     c.loop-part-test.true c.part-item.is c.loop-part.invariant c.in_err-arguments_of.field-0.0
     c.in_err-arguments_of.ensures)
@@ -58,7 +58,7 @@ arguments_of_all-returns-in_err-arguments_of t c =
 pub arguments_of_all-loop-part-preserved : goal.arguments_of_all-loop-part-preserved
 arguments_of_all-loop-part-preserved t c =
     arguments_next c.args.context.now.entry c.args.context.now.table.now.constructors
-    c.args.scope.now
+    c.args.scope.now.names
     c.args.types.now c.loop-part.types c.args.parts.now c.loop-part.part-index c.part-item.result
     c.loop-part-test.true c.part-item.is c.loop-part.invariant c.arguments_of.new.types
     c.in_ok-arguments_of.ensures

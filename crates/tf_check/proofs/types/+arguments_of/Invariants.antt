@@ -8,5 +8,5 @@ abbrev pub invariant-arguments_of_all-loop-part : goal.invariant-arguments_of_al
 invariant-arguments_of_all-loop-part l =
     Answers
     (appended l.fn.types (arguments_of_all (map (type_in l.context) (take l.part-index l.parts))
-    l.scope))
+    l.scope.names))
     (Ok l.types)

@@ -8,5 +8,5 @@ use Rattle.tf_check.proofs.types.+type_of.Given as goal
 abbrev pub invariant-types_of-loop-part : goal.invariant-types_of-loop-part
 invariant-types_of-loop-part l =
     Answers
-    (in_turn (types_of_all (map (type_in l.context) (take l.part-index l.parts)) l.scope))
+    (in_turn (types_of_all (map (type_in l.context) (take l.part-index l.parts)) l.scope.names))
     (Ok l.types)

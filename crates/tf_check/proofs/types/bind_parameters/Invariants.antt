@@ -10,7 +10,7 @@ invariant-loop-bound l =
           (bind_parameters l.context.entry
           (map (bound_reading l.context.entry l.context.table.now.constructors)
           (take l.bound-index l.bounds))
-          l.fn.scope)
-          (Ok l.scope);
-      size : length l.scope ≡ length l.fn.scope + l.bound-index;
+          l.fn.scope.names)
+          (Ok l.scope.names);
+      size : length l.scope.names ≡ length l.fn.scope.names + l.bound-index;
     }

@@ -11,7 +11,7 @@ abbrev pub invariant-loop-left : goal.invariant-loop-left
 invariant-loop-left l =
     record {
       within : l.terms + l.left ≤ length l.self-inside.bindings.items;
-      counted : l.types ≡ type_variables (scope_of (take l.left l.self-inside.bindings.items));
-      passed : meaning l.self l.name
-          ≡ raised l.terms (meaning (scope_of (take l.left l.self-inside.bindings.items)) l.name);
+      counted : l.types ≡ type_variables (scope_of l.self-inside.types (take l.left l.self-inside.bindings.items));
+      passed : meaning l.self.names l.name
+          ≡ raised l.terms (meaning (scope_of l.self-inside.types (take l.left l.self-inside.bindings.items)) l.name);
     }

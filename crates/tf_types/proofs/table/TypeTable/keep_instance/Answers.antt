@@ -13,4 +13,5 @@ invariant_of-self-2 c = record {
       (AreInstances-insert_entry eq_asked same_asked (types_of c.self.inside.nodes.keys)
       c.args.asked c.args.made c.self.inside.instances.entries c.self.invariant.instances
       (subst (λ types. IsInstance types c.args.asked c.args.made) (sym c.self.view_is) c.requires));
+  ground = c.self.invariant.ground;
 }

@@ -1,6 +1,7 @@
 use Rattle.std.proofs.Common.{sym, ap, subst, ◌∙◌}
 use Rattle.tf_types.specs.Nodes.{types_of, AreNumbered}
-use Rattle.tf_types.specs.Instances.{AreInstances}
+use Rattle.tf_types.specs.Instances.{AreInstances, AreGround}
+use Rattle.tf_types.proofs.Ground.{AreGround-nothing}
 use Rattle.tf_types.proofs.Nodes.{AreNumbered-nothing, types_of-nothing}
 use Rattle.tf_types.proofs.table.TypeTable.new.Goals as goal
 
@@ -9,6 +10,8 @@ invariant_of-result c = record {
   numbered = subst (λ nodes. AreNumbered nodes (types_of nodes)) (sym c.new.ensures.empty)
       AreNumbered-nothing;
   instances = subst (AreInstances (types_of c.new.result.keys)) (sym c.new-2.ensures.empty) tt;
+  ground = subst (AreGround (types_of c.new.result.keys)) (sym c.new-3.ensures.items)
+      (AreGround-nothing (types_of c.new.result.keys));
 }
 
 pub returns-clause-empty : goal.returns-clause-empty

@@ -1,5 +1,5 @@
-use Rattle.tf_types.proofs.Added.{added, added_kept, added_given, added_instances}
-use Rattle.tf_types.proofs.table.TypeTable.add.Goals as goal
+use Rattle.tf_types.proofs.Added.{added, added_kept, added_given, added_instances, added_ground}
+use Rattle.tf_types.proofs.table.TypeTable.insert.Goals as goal
 
 pub invariant_of-self-2 : goal.invariant_of-self-2
 invariant_of-self-2 c = record {
@@ -8,6 +8,9 @@ invariant_of-self-2 c = record {
   instances = added_instances c.self.inside.nodes.keys c.insert_full.new.self.keys c.args.self.now
       c.args.node c.self.view_is c.self.invariant.numbered c.requires c.in_ok-index.ensures.keys
       c.self.inside.instances.entries c.self.invariant.instances;
+  ground = added_ground c.self.inside.nodes.keys c.insert_full.new.self.keys c.args.self.now
+      c.args.node c.self.view_is c.self.invariant.numbered c.requires c.in_ok-index.ensures.keys
+      c.self.inside.ground.items c.self.invariant.ground;
 }
 
 pub returns-clause-denoted : goal.returns-clause-denoted
