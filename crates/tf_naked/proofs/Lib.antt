@@ -3,7 +3,7 @@ pub mod Positions
 pub mod Flags
 pub mod Standing
 pub mod Naked
-pub mod Sorts
+pub mod HeldTypes
 pub mod BinderTypes
 pub mod Rows
 pub mod Binders
@@ -17,3 +17,7 @@ pub mod Universals
 pub mod OpenVariables
 pub mod NakedVariables
 pub mod NakedTypes
+pub mod Sets
+pub mod SortPlaces
+pub mod OnceListed
+pub mod FreeSorts

@@ -1,5 +1,5 @@
 -- The naked places of a problem: their types are those of its naked variables, and sorts.
-use Rattle.std.specs.Prelude.{ℕ, ◌+◌, ◌≡◌, ◌↔◌, Bool, true, false, ◌&&◌, ◌||◌, List, [], ◌∷◌, ◌++◌, map, slice_get, None, IsTrue}
+use Rattle.std.specs.Prelude.{ℕ, ◌+◌, ◌≡◌, Bool, true, false, ◌&&◌, ◌||◌, List, [], ◌∷◌, map, slice_get, None, IsTrue}
 use Rattle.std.specs.List.{AllByRecursion, list_any}
 use Rattle.std.proofs.Common.{refl, sym, ap, subst, ◌∙◌, ⊎_elim}
 use Rattle.std.proofs.lemmas.Bool.{or_left, or_right, or_cases, and_parts, false≢true}
@@ -10,19 +10,19 @@ use Rattle.tf_core.specs.declared.signature.Signature.{Signature}
 use Rattle.tf_core.specs.declared.normal.NormalFormula.{NormalFormula}
 use Rattle.tf_core.specs.declared.normal.Normal.{Normal}
 use Rattle.tf_core.specs.Types.{same_type}
-use Rattle.tf_core.specs.Typing.{IsNnf, IsNormal}
+use Rattle.tf_core.specs.Typing.{IsNnf}
 use Rattle.tf_core.specs.Sorts.{joined, binder_types}
 use Rattle.tf_core.proofs.FormulaInduction.{nnf_induction}
 use Rattle.tf_core.proofs.Typed.{same_type-says, same_type-self}
 use Rattle.tf_naked.specs.declared.binder.Binder.{Binder}
 use Rattle.tf_naked.specs.Binders.{binder_of, universal_binders}
 use Rattle.tf_naked.specs.Standing.{is_naked}
-use Rattle.tf_naked.specs.Naked.{equations_of, NakedPlace, naked_in_equations, naked_in_formulas, naked_places, first_naked, is_naked_type}
+use Rattle.tf_naked.specs.Naked.{equations_of, NakedPlace, naked_in_equations, naked_in_formulas, naked_places}
 use Rattle.tf_naked.specs.Universals.{Universal, universals_of, is_naked_of}
 use Rattle.tf_naked.specs.SortLaws.{IsSort, AreSorts}
-use Rattle.tf_naked.specs.NakedLaws.{NoVariableIsNaked, NoPlaceIsNaked, NakedVariablesHaveNakedTypes, NakedTypesAreSorts}
+use Rattle.tf_naked.specs.NakedLaws.{NoPlaceIsNaked, NakedVariablesHaveNakedTypes, NakedTypesAreSorts}
 use Rattle.tf_naked.proofs.BinderTypes.{binder_types-and, binder_types-or, binder_types-for_all, binder_types-exists}
-use Rattle.tf_naked.proofs.Sorts.{binder_sorts}
+use Rattle.tf_naked.proofs.HeldTypes.{binder_sorts}
 use Rattle.tf_naked.proofs.Universals.{told_binders, universals_of-true, universals_of-false, universals_of-atom, universals_of-equation, universals_of-and, universals_of-or, universals_of-for_all, universals_of-exists}
 use Rattle.tf_naked.proofs.NakedVariables.{of_naked_variables}
 

@@ -53,7 +53,7 @@ or_itself false = refl
 
 module _ (g : Signature) (ty : Ty) where
   -- whether an equation is of this type and has a naked side
-  abbrev has_naked : Equation → Bool
+  abbrev pub has_naked : Equation → Bool
   has_naked equation =
       ((equation.positive && is_universal equation.left)
       || (equation.positive && is_universal equation.right))
@@ -197,7 +197,7 @@ module _ (g : Signature) (ty : Ty) where
 
   -- ---- from equations to places
 
-  abbrev has_type : NakedPlace → Bool
+  abbrev pub has_type : NakedPlace → Bool
   has_type naked = same_type ty naked.ty
 
   sides_naked : (a b : Bool) (left right : Place) (t : Ty) →
@@ -210,7 +210,7 @@ module _ (g : Signature) (ty : Ty) where
   sides_naked false true left right t = or-false (same_type ty t)
   sides_naked false false left right t = refl
 
-  equations_naked : (formula number : ℕ) (equations : List Equation) →
+  pub equations_naked : (formula number : ℕ) (equations : List Equation) →
       list_any has_type (naked_in_equations formula number equations)
       ≡ list_any has_naked equations
   equations_naked formula number [] = refl

@@ -17,7 +17,7 @@ use Rattle.tf_naked.specs.Rows.{sort_a, sort_b, equal_variables, all_equal, some
 use Rattle.tf_naked.proofs.Standing.{kind_of-variable, kind_of-apply}
 use Rattle.tf_naked.proofs.Naked.{equations_of-equation, equations_of-for_all, equations_of-exists}
 use Rattle.tf_naked.proofs.BinderTypes.{binder_types-equation, binder_types-for_all, binder_types-exists}
-use Rattle.tf_naked.proofs.Sorts.{parts_of-apply}
+use Rattle.tf_naked.proofs.HeldTypes.{parts_of-apply}
 
 -- ---- equations
 

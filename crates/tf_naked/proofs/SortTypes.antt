@@ -15,7 +15,7 @@ use Rattle.tf_core.specs.Sorts.{joined, parts_of, result_types, declared_types, 
 use Rattle.tf_core.specs.Sound.{individuals, IsSoundFormula}
 use Rattle.tf_core.proofs.Typed.{same_type-self}
 use Rattle.tf_naked.specs.SortLaws.{SortsStandOnce, SortsAreTypes}
-use Rattle.tf_naked.proofs.Sorts.{parts_of-apply}
+use Rattle.tf_naked.proofs.HeldTypes.{parts_of-apply}
 use Rattle.tf_naked.proofs.BinderTypes.{binder_types-true, binder_types-false, binder_types-atom, binder_types-equation, binder_types-and, binder_types-or, binder_types-for_all, binder_types-exists}
 
 -- ---- once

@@ -13,7 +13,6 @@ use Rattle.tf_core.specs.Sound.{IsSoundFormula}
 use Rattle.tf_naked.specs.declared.place.Place.{Place}
 use Rattle.tf_naked.specs.declared.position.Kind.{Kind}
 use Rattle.tf_naked.specs.declared.kinds.Frames.TheVariants.{Outside}
-use Rattle.tf_naked.specs.declared.first.Walk.{Walk}
 use Rattle.tf_naked.specs.declared.first.Walk.TheVariants.{Found, Passed}
 use Rattle.tf_naked.specs.Standing.{is_universal}
 use Rattle.tf_naked.specs.Naked.{Equation, equations_of, NakedPlace, naked_sides, naked_in_equations, naked_in_formulas}

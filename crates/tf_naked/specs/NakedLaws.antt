@@ -1,6 +1,6 @@
 -- Naked places and naked variables say the same: a problem's places are found from its equations,
 -- a variable is found naked from its binder.
-use Rattle.std.specs.Prelude.{ℕ, ◌≡◌, ◌↔◌, false, List, [], map, None, IsTrue}
+use Rattle.std.specs.Prelude.{ℕ, ◌≡◌, ◌↔◌, false, [], map, None, IsTrue}
 use Rattle.std.specs.List.{AllByRecursion, list_any}
 use Rattle.tf_core.specs.declared.ty.Ty.{Ty}
 use Rattle.tf_core.specs.declared.nnf.Nnf.{Nnf}

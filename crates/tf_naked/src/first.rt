@@ -105,8 +105,13 @@ fn place_of_side(formula: usize, number: usize, side: Option<u32>) -> Walk
     }
 }
 
-// the first side of an equation that is naked
-fn first_side<'f>(positive: bool, left: &Term, right: &Term, frames: &'f Frames<'f>) -> Option<u32>
+/// The first side of an equation that is naked.
+pub(crate) fn first_side<'f>(
+    positive: bool,
+    left: &Term,
+    right: &Term,
+    frames: &'f Frames<'f>,
+) -> Option<u32>
     ensures { result ≡ first_side positive (kind_of (kinds_of frames.now) left.now)
         (kind_of (kinds_of frames.now) right.now) }
 {

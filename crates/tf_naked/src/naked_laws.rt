@@ -1,6 +1,12 @@
 //! That naked places and naked variables say the same, as calls that do nothing.
 
-ghost use Rattle.tf_naked.specs.NakedLaws.{NakedPlacesAreOfNakedVariables, BindersAreTold, NoPlaceIsNaked, NakedVariablesHaveNakedTypes, NakedTypesAreSorts};
+ghost use Rattle.tf_naked.specs.NakedLaws.{
+  NakedPlacesAreOfNakedVariables,
+  BindersAreTold,
+  NoPlaceIsNaked,
+  NakedVariablesHaveNakedTypes,
+  NakedTypesAreSorts,
+};
 
 /// A formula has a naked place of a type exactly where it has a naked variable of that type.
 pub fn naked_places_are_of_naked_variables()

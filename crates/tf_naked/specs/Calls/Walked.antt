@@ -1,6 +1,5 @@
 -- What a walk through equations gives: the first naked place, or the number of the next equation.
 use Rattle.std.specs.Prelude.{ℕ, ◌+◌, Bool, ◌&&◌, List, [], ◌∷◌, length, cond, Option, Some, None}
-use Rattle.tf_core.specs.declared.ty.Ty.{Ty}
 use Rattle.tf_naked.specs.declared.position.Kind.{Kind}
 use Rattle.tf_naked.specs.declared.first.Walk.{Walk}
 use Rattle.tf_naked.specs.declared.first.Walk.TheVariants.{Found, Passed}

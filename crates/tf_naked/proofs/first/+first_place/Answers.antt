@@ -1,4 +1,4 @@
-use Rattle.std.proofs.Common.{rules, map, sym, ap, ◌∷◌, ◌∙◌}
+use Rattle.std.proofs.Common.{rules, map, sym, ap, ◌∙◌}
 use Rattle.tf_core.specs.declared.nnf.Nnf.TheViews.{the_lemmas}
 use Rattle.tf_core.specs.Sorts.{joined}
 use Rattle.tf_naked.specs.declared.position.Kind.TheVariants.{Universal, Existential}

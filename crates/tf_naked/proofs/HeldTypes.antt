@@ -131,7 +131,7 @@ abbrev IsClosed : List Ty → Type 0
 IsClosed list = (c : ℕ) (types : List Ty) → Holds list (type.Apply c types) →
     AllByRecursion (Holds list) types
 
-closed_append : (list others : List Ty) → IsClosed list → IsClosed others →
+pub closed_append : (list others : List Ty) → IsClosed list → IsClosed others →
     IsClosed (list ++ others)
 closed_append list others first second c types is =
     ⊎_elim
@@ -141,7 +141,7 @@ closed_append list others first second c types is =
     (second c types back))
     (either_holds list others (type.Apply c types) is)
 
-closed_joined : (types : List Ty) → AllByRecursion (λ ty. IsClosed (parts_of ty)) types →
+pub closed_joined : (types : List Ty) → AllByRecursion (λ ty. IsClosed (parts_of ty)) types →
     IsClosed (joined (map parts_of types))
 closed_joined [] each = λ c list is. absurd (false≢true is)
 closed_joined (ty ∷ types) each =
@@ -186,7 +186,7 @@ parts_closed = type_induction (λ ty. IsClosed (parts_of ty))
     (either_holds (joined (map parts_of others)) (type.Apply d others ∷ []) (type.Apply c types)
     is)))
 
-all_parts_closed : (types : List Ty) → AllByRecursion (λ ty. IsClosed (parts_of ty)) types
+pub all_parts_closed : (types : List Ty) → AllByRecursion (λ ty. IsClosed (parts_of ty)) types
 all_parts_closed [] = tt
 all_parts_closed (ty ∷ types) = (parts_closed ty, all_parts_closed types)
 
