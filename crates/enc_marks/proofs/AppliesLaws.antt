@@ -20,7 +20,7 @@ use Rattle.tf_naked.specs.Naked.{Equation, equations_of, NakedPlace, naked_side,
 use Rattle.tf_naked.specs.SortLaws.{IsSort, AreSorts}
 use Rattle.tf_naked.proofs.Naked.{equations_of-true, equations_of-false, equations_of-atom, equations_of-equation, equations_of-and, equations_of-or, equations_of-for_all, equations_of-exists}
 use Rattle.tf_naked.proofs.BinderTypes.{binder_types-and, binder_types-or, binder_types-for_all, binder_types-exists}
-use Rattle.tf_naked.proofs.Sorts.{sorts_front, sorts_back, binder_sorts, term_sort}
+use Rattle.tf_naked.proofs.HeldTypes.{sorts_front, sorts_back, binder_sorts, term_sort}
 use Rattle.enc_marks.specs.declared.scheme.Scheme.{Scheme}
 use Rattle.enc_marks.specs.declared.scheme.Scheme.TheVariants as scheme
 use Rattle.enc_marks.specs.Applies.{AreFree, Applies, asks_monomorphic, first_not_free, refused_place}

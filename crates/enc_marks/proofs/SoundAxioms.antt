@@ -25,7 +25,7 @@ use Rattle.fof_models.specs.Sound.{IsSoundFormula, is_term, is_formula, has_pair
 use Rattle.fof_models.proofs.Sound.{is_term-variable, is_term-apply, is_formula-and, is_formula-for_all, is_formula-exists, has_pairs-and, has_pairs-for_all, has_pairs-exists, binder_count-and, binder_count-for_all, binder_count-exists}
 use Rattle.tf_naked.specs.Covers.{covers}
 use Rattle.tf_naked.specs.SortLaws.{AreSorts}
-use Rattle.tf_naked.proofs.Sorts.{sorts_listed, argument_sorts, result_sort, binder_sorts}
+use Rattle.tf_naked.proofs.HeldTypes.{sorts_listed, argument_sorts, result_sort, binder_sorts}
 use Rattle.enc_marks.specs.declared.choices.Marking.TheVariants.{ByType, BySort}
 use Rattle.enc_marks.specs.declared.choices.Binding.{Binding}
 use Rattle.enc_marks.specs.declared.choices.Binding.TheVariants.{ByGuard, ByTag}

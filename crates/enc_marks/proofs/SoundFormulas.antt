@@ -28,7 +28,7 @@ use Rattle.tf_naked.specs.declared.position.Kind.{Kind}
 use Rattle.tf_naked.specs.declared.position.Kind.TheVariants.{Universal, Existential}
 use Rattle.tf_naked.specs.Standing.{is_undercover, is_naked}
 use Rattle.tf_naked.specs.SortLaws.{AreSorts}
-use Rattle.tf_naked.proofs.Sorts.{sorts_front, sorts_back, term_sort}
+use Rattle.tf_naked.proofs.HeldTypes.{sorts_front, sorts_back, term_sort}
 use Rattle.tf_naked.proofs.BinderTypes.{binder_types-and, binder_types-or, binder_types-for_all, binder_types-exists}
 use Rattle.enc_marks.specs.declared.choices.Marking.TheVariants.{BySort}
 use Rattle.enc_marks.specs.declared.choices.Binding.{Binding}

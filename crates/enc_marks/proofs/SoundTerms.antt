@@ -18,7 +18,7 @@ use Rattle.fof_models.specs.declared.problem.FofSymbol.{FofSymbol}
 use Rattle.fof_models.specs.Sound.{is_of_kind, is_symbol, is_term, are_terms}
 use Rattle.fof_models.proofs.Sound.{is_term-variable, is_term-apply}
 use Rattle.tf_naked.specs.Covers.{covers}
-use Rattle.tf_naked.proofs.Sorts.{place_sorts}
+use Rattle.tf_naked.proofs.HeldTypes.{place_sorts}
 use Rattle.tf_naked.specs.declared.position.Position.{Position}
 use Rattle.tf_naked.specs.declared.position.Position.TheVariants.{Argument}
 use Rattle.tf_naked.specs.declared.position.Kind.{Kind}

@@ -14,6 +14,7 @@ mod mark;
 mod marked;
 mod occurring;
 mod open_formula;
+mod polymorphic;
 mod refusal;
 mod renumber;
 mod scheme;
@@ -37,6 +38,7 @@ pub use laws::{
     types_have_their_terms,
 };
 pub use mark::Mark;
+pub use polymorphic::first_polymorphic;
 pub use refusal::Refusal;
 pub use scheme::Scheme;
 pub use types::type_term;
