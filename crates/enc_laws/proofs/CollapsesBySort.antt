@@ -33,7 +33,7 @@ use Rattle.tf_naked.specs.declared.position.Kind.TheVariants.{Universal}
 use Rattle.tf_naked.specs.Standing.{is_positive_side, stands, is_undercover, is_naked}
 use Rattle.tf_naked.specs.Naked.{is_naked_type, is_only, is_free}
 use Rattle.tf_naked.specs.SortLaws.{IsSort, AreSorts}
-use Rattle.tf_naked.proofs.Sorts.{sorts_listed, binder_sorts, sorts_front, sorts_back, argument_sorts, result_sort}
+use Rattle.tf_naked.proofs.HeldTypes.{sorts_listed, binder_sorts, sorts_front, sorts_back, argument_sorts, result_sort}
 use Rattle.tf_naked.proofs.SortTypes.{sorts_formed}
 use Rattle.tf_naked.proofs.BinderTypes.{binder_types-and, binder_types-or, binder_types-for_all, binder_types-exists}
 use Rattle.enc_marks.specs.declared.choices.Marking.TheVariants.{ByType, BySort}
@@ -117,7 +117,8 @@ module _ (c : Choices) (is_bare : Ty → Bool) (normal : Normal) (s : Typed)
   pub sort_some : (ty : Ty) → IsSort normal ty → 0 < sort_size s ty
   sort_some ty is =
       model.structure.inhabited (member_of s [] ty)
-      (type_within normal.signature s typed.signature model.structure 0 ty (sort_formed ty is) [] tt)
+      (type_within normal.signature s typed.signature model.structure 0 ty (sort_formed ty is) []
+      tt)
 
   pub sort_fits : (ty : Ty) → IsSort normal ty → sort_size s ty ≤ domain_size c normal s
   sort_fits ty is =

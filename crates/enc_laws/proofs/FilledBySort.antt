@@ -17,7 +17,7 @@ use Rattle.fof_models.specs.declared.structure.Structure.{Structure}
 use Rattle.fof_models.specs.Structures.{Untyped, reading}
 use Rattle.fof_models.specs.Models.{AreModel}
 use Rattle.tf_naked.specs.Naked.{is_free}
-use Rattle.tf_naked.proofs.Sorts as naked_sorts
+use Rattle.tf_naked.proofs.HeldTypes as naked_sorts
 use Rattle.enc_marks.specs.Choices.{Choices}
 use Rattle.enc_marks.specs.Translation.{Numbers, selected}
 use Rattle.enc_marks.specs.Encoded.{all_numbers, is_present, translation, encoded}
@@ -70,8 +70,8 @@ module _ (normal : Normal) (s : Structure) (monomorphic : IsTrue (is_monomorphic
   first_is : (m : ℕ) → m < length (sorts normal) → IsFirst m (first_read m)
   first_is m within =
       let least = ranked s.size 0 (own.picks m)
-      (sort_inhabited normal present zeros monomorphic sound total.closed (total.tags refl) m within)
-      in
+      (sort_inhabited normal present zeros monomorphic sound total.closed (total.tags refl) m
+      within) in
       let from = read_from_some (is_free normal (sort_at normal m)) s.size
       (mark_of_sort k zeros (sort_at normal m)) least.0 least.1.below least.1.passes in
       let passes : is_first m from.0 ≡ true =

@@ -45,3 +45,4 @@ pub mod LiftBySortTags
 pub mod PresentBySort
 pub mod FilledBySort
 pub mod SortSchemes
+pub mod LiftedRows

@@ -22,7 +22,7 @@ use Rattle.tf_naked.specs.declared.position.Position.{Position}
 use Rattle.tf_naked.specs.declared.position.Kind.{Kind}
 use Rattle.tf_naked.specs.SortLaws.{IsSort, AreSorts}
 use Rattle.tf_naked.proofs.BinderTypes.{binder_types-and, binder_types-or, binder_types-for_all, binder_types-exists}
-use Rattle.tf_naked.proofs.Sorts as naked_sorts
+use Rattle.tf_naked.proofs.HeldTypes as naked_sorts
 use Rattle.enc_marks.specs.declared.choices.Marking.TheVariants.{BySort}
 use Rattle.enc_marks.specs.declared.choices.Binding.{Binding}
 use Rattle.enc_marks.specs.declared.choices.Binding.TheVariants.{ByGuard, ByTag}

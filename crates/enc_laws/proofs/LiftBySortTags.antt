@@ -1,5 +1,5 @@
--- The lift of the translation where each term of a sort that isn't free has its tag: the elements of
--- such a sort are what its tag gives, and numbers are read through the tag.
+-- The lift of the translation where each term of a sort that isn't free has its tag: the elements
+-- of such a sort are what its tag gives, and numbers are read through the tag.
 use Rattle.std.specs.Prelude.{ℕ, ◌<◌, ◌≡◌, Bool, true, false, not, List, [], ◌∷◌, ◌++◌, length, cond, eqb, slice_get, Some, IsTrue}
 use Rattle.std.proofs.Common.{refl, sym, ap, ◌∙◌, arith}
 use Rattle.std.proofs.lemmas.Bool.{eqb-true, eq-eqb, false≢true}
@@ -21,7 +21,7 @@ use Rattle.tf_naked.specs.declared.position.Kind.{Kind}
 use Rattle.tf_naked.specs.Standing.{stands}
 use Rattle.tf_naked.specs.Naked.{is_free}
 use Rattle.tf_naked.specs.SortLaws.{IsSort}
-use Rattle.tf_naked.proofs.Sorts as naked_sorts
+use Rattle.tf_naked.proofs.HeldTypes as naked_sorts
 use Rattle.enc_marks.specs.declared.choices.Elements.{Elements}
 use Rattle.enc_marks.specs.declared.choices.Elements.TheVariants.{Image, All}
 use Rattle.enc_marks.specs.Choices.{Choices}

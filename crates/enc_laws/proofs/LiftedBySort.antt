@@ -137,8 +137,8 @@ module _ (c : Choices) (normal : Normal) (present : ℕ → Bool) (j : Untyped)
       IsTrue (truth j (bind c (all_numbers normal) normal.signature depth sort t) assignment) →
       is_bound_by c.binding (mark_of_sort (all_numbers normal) j sort) (value j assignment t) ≡ true
   bound_marked depth sort t assignment h =
-      sym (truth-bind c normal present j monomorphic sound total.closed by absent axioms depth sort t
-      assignment c.binding refl) ∙ h
+      sym (truth-bind c normal present j monomorphic sound total.closed by absent axioms depth sort
+      t assignment c.binding refl) ∙ h
 
   marked_element : (sort : Ty) → IsSort normal sort → (b : Binding) → c.binding ≡ b →
       IsTrue (truth j (last_axiom c (all_numbers normal) normal.signature b 0 sort) []) →
@@ -175,8 +175,8 @@ module _ (c : Choices) (normal : Normal) (present : ℕ → Bool) (j : Untyped)
       let less = count_below-less j.size v (own.picks m) below picked in
       omega (arith, less)
 
-  inhabited_by : (m : ℕ) → m < own.members → (typing : Bool) → c.typing (sort_at normal m) ≡ typing →
-      0 < count_below j.size (own.picks m)
+  inhabited_by : (m : ℕ) → m < own.members → (typing : Bool) →
+      c.typing (sort_at normal m) ≡ typing → 0 < count_below j.size (own.picks m)
   inhabited_by m within true typing =
       let sort : Ty = sort_at normal m in
       let is : IsSort normal sort = sort_at-sort normal m within in
@@ -188,8 +188,9 @@ module _ (c : Choices) (normal : Normal) (present : ℕ → Bool) (j : Untyped)
       some_element m 0 total.closed.inhabited
       (by.all (sort_at normal m) j.size (mark_of_sort k j (sort_at normal m)) 0 typing)
 
-  pub sort_lifted_model : IsNormalModel normal (lifted c (all_numbers normal) normal.signature present
-      j (lift_by_sort c normal (all_numbers normal) j))
+  pub sort_lifted_model : IsNormalModel normal
+      (lifted c (all_numbers normal) normal.signature present j
+      (lift_by_sort c normal (all_numbers normal) j))
   sort_lifted_model =
       let typed = normal_typed normal sound in
       let l : Lift = lift_by_sort c normal k j in

@@ -58,8 +58,8 @@ EachBelow-back bound (suc first) second values below =
 
 module _ (g : Signature) (s : Typed) (sound : IsSignature g) (structure : IsStructure g s) where
   mutual
-    pub type_within : (variables : ℕ) (ty : Ty) (formed : IsType g variables ty) (members : List ℕ) →
-        EachBelow (replicate variables (member_count s)) members →
+    pub type_within : (variables : ℕ) (ty : Ty) (formed : IsType g variables ty)
+        (members : List ℕ) → EachBelow (replicate variables (member_count s)) members →
         member_of s members ty < member_count s
     type_within variables ty (type_variable i within) members below =
         subst (λ x. x < member_count s) (sym (type_value-variable s.constructor_at members i))

@@ -42,8 +42,8 @@ module _ (g : Signature) where
 
   arguments_apart : (tests : List Bool) (terms : List Term) (i : ℕ) →
       AllByRecursion IsApart terms →
-      IsTrue (stands_in_arguments is_positive_side tests (map (standing g is_positive_side) terms) i)
-      → ⊥
+      IsTrue (stands_in_arguments is_positive_side tests (map (standing g is_positive_side) terms)
+      i) → ⊥
   arguments_apart [] terms i apart h = false≢true h
   arguments_apart (test ∷ tests) [] i apart h = false≢true h
   arguments_apart (test ∷ tests) (t ∷ terms) i apart h =

@@ -96,7 +96,7 @@ slice_get-front [] others i item at = cc
 slice_get-front (first ∷ items) others zero item at = at
 slice_get-front (first ∷ items) others (suc i) item at = slice_get-front items others i item at
 
-pub slice_get-behind : {A : Type 0} (items others : List A) (i : ℕ) (item : A) →
+slice_get-behind : {A : Type 0} (items others : List A) (i : ℕ) (item : A) →
     slice_get others i ≡ Some item → slice_get (items ++ others) (length items + i) ≡ Some item
 slice_get-behind [] others i item at = let e : i ≡ 0 + i = omega arith in
     subst (λ x. slice_get others x ≡ Some item) e at

@@ -1,4 +1,5 @@
--- The laws of the schemes whose marks are of sorts, and of all schemes, from those of the structures.
+-- The laws of the schemes whose marks are of sorts, and of all schemes, from those of the
+-- structures.
 use Rattle.std.specs.Prelude.{ℕ, ◌≡◌, Bool, true, false, not, ◌&&◌, cond, IsTrue}
 use Rattle.std.proofs.Common.{refl, sym, subst}
 use Rattle.std.proofs.lemmas.Bool.{and_parts, false≢true}

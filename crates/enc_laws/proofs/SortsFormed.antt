@@ -17,7 +17,7 @@ use Rattle.tf_core.specs.Sound.{is_monomorphic, IsSoundNormal}
 use Rattle.tf_core.proofs.Typed.{same_type-says}
 use Rattle.tf_core.proofs.Types.{type_value-apply}
 use Rattle.tf_naked.specs.SortLaws.{IsSort, AreSorts}
-use Rattle.tf_naked.proofs.Sorts.{sorts_listed, sort_arguments, sorts_front, sorts_back}
+use Rattle.tf_naked.proofs.HeldTypes.{sorts_listed, sort_arguments, sorts_front, sorts_back}
 use Rattle.tf_naked.proofs.SortTypes.{sorts_formed}
 use Rattle.enc_laws.specs.Lifted.{sort_at, formed_sort}
 
@@ -99,8 +99,8 @@ module _ (normal : Normal) where
       by n true is = ltb-true n (length (sorts normal)) is
       by n false is = some_sort
 
-  formed_number : (i : ℕ) (types : List Ty) (members : List ℕ) → IsSort normal (type.Apply i types) →
-      map (sort_at normal) members ≡ types →
+  formed_number : (i : ℕ) (types : List Ty) (members : List ℕ) →
+      IsSort normal (type.Apply i types) → map (sort_at normal) members ≡ types →
       formed_sort normal i members ≡ sort_number (type.Apply i types)
   formed_number i types members is same =
       ap (λ list. unwrap_or (position (same_type (type.Apply i list)) (sorts normal)) 0) same

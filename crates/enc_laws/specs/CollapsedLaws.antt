@@ -30,8 +30,8 @@ use Rattle.enc_laws.specs.CollapsedStructure.{collapsed}
 use Rattle.enc_laws.specs.Present.{over_present}
 
 -- Choices that write no types treat each type in one of three ways: it is bare, guarded or tagged.
--- Only of a type that is bare, by this test, may a variable be neither bound nor tagged where it has
--- to be an element.
+-- Only of a type that is bare, by this test, may a variable be neither bound nor tagged where it
+-- has to be an element.
 pub record BearsCollapse (c : Choices) (g : Signature) (is_bare : Ty → Bool) : Type 0 where
   pub domain : c.domain ≡ Collapsed
   pub marking : c.marking ≡ BySort
@@ -39,7 +39,7 @@ pub record BearsCollapse (c : Choices) (g : Signature) (is_bare : Ty → Bool) :
   -- a bare type has no tags
   pub tagged : (position : Position) (kind : Kind) (ty : Ty) → c.tagged position kind ty ≡ true →
       (is_bare ty ≡ false) × (c.binding ≡ ByTag)
-  -- what binders bind typing axioms do
+  -- binders bind only what typing axioms bind
   pub universal : (undercover naked : Bool) (ty : Ty) → c.universal undercover naked ty ≡ true →
       c.typing ty ≡ true
   pub existential : (ty : Ty) → c.existential ty ≡ true → c.typing ty ≡ true

@@ -32,7 +32,7 @@ use Rattle.enc_laws.specs.Corresponds.{Corresponds, Reads}
 use Rattle.enc_laws.specs.Directions.{Forward, Backward, NumbersAreRead}
 use Rattle.enc_laws.specs.ForwardAxioms.{ForwardAxioms}
 use Rattle.enc_laws.specs.MergedStructure.{merged}
-use Rattle.enc_laws.specs.Collapses.{collapsing, Collapses, CollapsesAll}
+use Rattle.enc_laws.specs.Collapses.{Collapses, CollapsesAll}
 use Rattle.enc_laws.specs.Lifted.{lifted, lift_by_type, lift_by}
 use Rattle.enc_laws.specs.Present.{over_present, over_all, is_tag, all_present}
 use Rattle.enc_laws.specs.Total.{IsTotal}
@@ -122,22 +122,8 @@ MergedIsModel = (which : Scheme) (normal : Normal) (s : Typed) →
     AreSatisfied (merged (choices_of which normal) normal.signature s)
     (translation (choices_of which normal) normal)
 
--- Over the collapsed domain, where each type is bare, guarded or tagged: what a formula says of the
--- typed structure its translation says of the untyped one.
-abbrev pub CollapseKeepsTruth : Type 0
-CollapseKeepsTruth = (c : Choices) (k : Numbers) (g : Signature) (s : Typed) (j : Untyped)
-    (member : ℕ → ℕ → Bool) (good : Ty → Bool) (ok : Nnf → Bool) → IsSignature g →
-    IsStructure g s →
-    Collapses c k g s j (λ v m. IsTrue (member v m)) (λ ty. IsTrue (good ty)) (λ p. IsTrue (ok p)) →
-    (variables depth : ℕ) (context : List Ty) (kinds : List Kind)
-    (members elements assignment : List ℕ) (p : Nnf) → IsNnf g variables context p →
-    IsTrue (ok p) →
-    Reads c k g s j (collapsing s j (λ v m. IsTrue (member v m)) (λ ty. IsTrue (good ty))) variables
-    depth context kinds members elements assignment (λ test i. stands g test p i) →
-    IsTrue (normal_truth s members p elements) →
-    IsTrue (truth j (formula c k g p depth kinds) assignment)
-
--- So it is of whole problems.
+-- A model of a normal problem gives, where an untyped structure stands for it over the collapsed
+-- domain, a model of its translation.
 abbrev pub CollapsedIsModel : Type 0
 CollapsedIsModel = (c : Choices) (normal : Normal) (s : Typed) (j : Untyped)
     (member : ℕ → ℕ → Bool) (good : Ty → Bool) (ok : Nnf → Bool) → IsNormal normal →

@@ -12,3 +12,4 @@ pub mod Total
 pub mod Laws
 pub mod CollapsedLaws
 pub mod LiftedBySort
+pub mod LiftedRows

@@ -1,4 +1,4 @@
-ghost use Rattle.enc_laws.specs.Laws.{TruthGoesForward, TruthGoesBack, ProblemsGoForward, ProblemsGoBack, OnlyPresentSymbolsCount, MergedIsModel, LiftedIsModel, TablesAreLifted, ModelsAreEncoded, CollapseKeepsTruth, CollapsedIsModel};
+ghost use Rattle.enc_laws.specs.Laws.{TruthGoesForward, TruthGoesBack, ProblemsGoForward, ProblemsGoBack, OnlyPresentSymbolsCount, MergedIsModel, LiftedIsModel, TablesAreLifted, ModelsAreEncoded, CollapsedIsModel};
 ghost use Rattle.enc_laws.specs.CollapsedLaws.{ModelsAreCollapsed, ModelsAreCollapsedBySort, SchemesCollapse, ModelsAreEncodedCollapsed};
 ghost use Rattle.enc_laws.specs.LiftedBySort.{SortsAreLifted, ModelsAreLifted};
 
@@ -49,12 +49,6 @@ pub fn lifted_is_model()
 /// normal problem. Where a symbol doesn't occur, its table is zeros, and a tag changes nothing.
 pub fn tables_are_lifted()
     ensures { TablesAreLifted }
-{}
-
-/// Over the collapsed domain, where a formula is true in the typed structure, its translation is in
-/// the untyped one: each type is bare, guarded or tagged.
-pub fn collapse_keeps_truth()
-    ensures { CollapseKeepsTruth }
 {}
 
 /// A structure over the collapsed domain of a model of a problem is a model of its translation.
