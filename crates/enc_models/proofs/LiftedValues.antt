@@ -11,60 +11,36 @@ use Rattle.tf_core.specs.declared.ty.Ty.TheVariants as type
 use Rattle.tf_core.specs.declared.signature.Constructor.{Constructor}
 use Rattle.tf_core.specs.declared.signature.Symbol.{Symbol}
 use Rattle.tf_core.specs.declared.signature.Signature.{Signature}
-use Rattle.tf_core.specs.Typing.{IsType, AreTypes, no_types, more_types, IsSymbol}
+use Rattle.tf_core.specs.Typing.{IsType, AreTypes, no_types, more_types}
 use Rattle.tf_core.specs.Structures.{size_of, member_of, AreArguments, IsStructure}
 use Rattle.tf_core.proofs.Types.{type_value-apply}
-use Rattle.tf_core.specs.declared.normal.Normal.{Normal}
 use Rattle.enc_base.specs.Tuples.{IsPlaced}
 use Rattle.tf_models.proofs.Inversion.{application_parts}
 use Rattle.enc_base.proofs.Placing.{EachBelow-same_length, place-step, place-fits, place-whole, placed_within}
+use Rattle.tf_models.proofs.Values.{symbol_typed}
 use Rattle.tf_models.proofs.TypeMembers.{type_value_below, type_values_below, type_at}
-use Rattle.fof_models.specs.declared.structure.Structure.{Structure}
 use Rattle.enc_marks.specs.declared.choices.Marking.{Marking}
-use Rattle.enc_marks.specs.declared.choices.Marking.TheVariants.{ByType}
-use Rattle.enc_marks.specs.Choices.{Choices}
-use Rattle.enc_marks.specs.Encoded.{all_numbers, is_present, translation}
+use Rattle.enc_marks.specs.declared.choices.Marking.TheVariants.{ByType, BySort}
+use Rattle.enc_marks.specs.Encoded.{all_numbers}
 use Rattle.enc_marks.specs.Occurrence.{count_below}
 use Rattle.enc_marks.specs.Translation.{selected}
 use Rattle.enc_marks.proofs.SoundTypes.{length-selected}
-use Rattle.enc_laws.specs.Lifted.{Lift, numbers_of, read_as, lift_by, lift_by_type, lifted, lifted_at, lifted_value}
+use Rattle.enc_laws.specs.Lifted.{Lift, numbers_of, lift_by, lifted_at, lifted_value}
 use Rattle.enc_laws.specs.MergedStructure.{kept_count}
 use Rattle.enc_laws.specs.Ranks.{nth}
 use Rattle.enc_laws.proofs.Ranked.{length-listed, listed-at}
 use Rattle.enc_laws.specs.Present.{is_tag}
-use Rattle.enc_models.specs.LiftedTables.{marked_structure, lifted_structure}
-use Rattle.enc_models.specs.Calls.Lifting.{Parts, marked_in, mark_in, table_in, typed_in, lift_in, occurs_in, picks_in, numbers_in, entry_in, bounds_in, IsMarked}
+use Rattle.enc_laws.proofs.SortsFormed.{parameters_none}
+use Rattle.enc_models.specs.Calls.Lifting.{Parts, marked_in, members_in, table_in, typed_in, lift_in, occurs_in, picks_in, numbers_in, entry_in, bounds_in, IsMarked, IsSymbolIn, IsTableOver, IsConstructorTable}
+use Rattle.enc_models.proofs.OwnMarks.{members-by_type}
 use Rattle.enc_models.proofs.MarkedTables.{constructor_long, symbol_long, symbol_below, entry_is, entry_none, plain_number, some_occurs}
 use Rattle.enc_models.proofs.ParameterSources.{few_kept, selected_below, get_or-selected, count_before}
 use Rattle.enc_models.proofs.PickedNumbers.{nth_below}
 
--- the place of a tuple over one bound, found from the left
-module _ (count size : ℕ) (values : List ℕ) (below : EachBelow (replicate count size) values) where
-  module _ (i at v : ℕ) (within : i < count) (same : v ≡ get_or values i 0)
-      (so_far : at ≡ place (take i (replicate count size)) (take i values))
-    where
-      pub fold-step : at * size + v ≡ place (take (i + 1) (replicate count size))
-          (take (i + 1) values)
-      fold-step =
-          place-step (replicate count size) values i size v at below
-          (omega (arith, within, length-replicate count size))
-          (sym (get_or-replicate count i size 0 within)) same so_far
-
-      pub fold-fits : at * size + v < tuple_count (replicate count size)
-      fold-fits =
-          place-fits (replicate count size) values i size v at below
-          (omega (arith, within, length-replicate count size))
-          (sym (get_or-replicate count i size 0 within)) same so_far
-
-  pub fold-placed : (i at : ℕ) → count ≤ i →
-      at ≡ place (take i (replicate count size)) (take i values) →
-      IsPlaced (replicate count size) values at
-  fold-placed i at whole so_far = record {
-    place_is = so_far
-        ∙ place-whole (replicate count size) values i below
-        (omega (arith, whole, length-replicate count size));
-    below = below;
-  }
+none_below : (size : ℕ) (values : List ℕ) → length values ≡ 0 →
+    EachBelow (replicate (length values) size) values
+none_below size [] none = tt
+none_below size (v ∷ values) none = absurd (omega (arith, none))
 
 joined_below : (size first second : ℕ) (values others : List ℕ) →
     EachBelow (replicate first size) values → EachBelow (replicate second size) others →
@@ -79,32 +55,76 @@ joined_below size (suc first) second (v ∷ values) others below rest =
     subst (λ n. EachBelow (replicate n size) (v ∷ (values ++ others))) e
     (below.0, joined_below size first second values others below.1 rest)
 
--- the lifted structure of marks by type
-pub lifted_structure-by_type : (c : Choices) (normal : Normal) (s : Structure) →
-    c.marking ≡ ByType →
-    lifted_structure c normal s
-    ≡ lifted c (all_numbers normal) normal.signature (is_present (translation c normal))
-    (marked_structure c normal s)
-    (lift_by_type c (all_numbers normal) (marked_structure c normal s))
-lifted_structure-by_type c normal s by_type =
-    ap (λ (marking : Marking). lifted c (all_numbers normal) normal.signature
-    (is_present (translation c normal)) (marked_structure c normal s)
-    (lift_by marking c normal (all_numbers normal) (marked_structure c normal s))) by_type
+-- ---- constructors, where the guard or tag is that of all types
+
+pub constructor-by_type : (m : Parts) → m.choices.marking ≡ ByType → (c : ℕ) (values : List ℕ) →
+    (marked_in m).symbol_at (length m.normal.signature.symbols + c) values
+    ≡ (typed_in m).constructor_at c values
+constructor-by_type m by_type c values =
+    sym (ap (λ (k : Marking). (lift_by k m.choices m.normal (all_numbers m.normal)
+    (marked_in m)).constructor_at c values) by_type)
+
+module _ (m : Parts) (ready : IsMarked m) (by_type : m.choices.marking ≡ ByType)
+    (symbols : List Symbol) (symbols_are : symbols ≡ m.normal.signature.symbols) (c : ℕ)
+    (table : List ℕ) (table_of : table ≡ table_in m (length symbols + c))
+    (constructor : Constructor)
+    (found : slice_get m.normal.signature.constructors c ≡ Some constructor)
+  where
+    abbrev own_number : ℕ
+    own_number = length m.normal.signature.symbols + c
+
+    table_read : table ≡ table_in m own_number
+    table_read =
+        table_of ∙ ap (λ (xs : List Symbol). table_in m (length xs + c)) symbols_are
+
+    plain : is_tag m.choices m.normal own_number ≡ false
+    plain =
+        plain_number m.choices m.normal own_number
+        (omega (arith, slice_get_within m.normal.signature.constructors c constructor found))
+
+    entry_read : (values : List ℕ) → EachBelow (replicate constructor.arity (members_in m)) values →
+        slice_index table (place (replicate constructor.arity (members_in m)) values)
+        ≡ (typed_in m).constructor_at c values
+    entry_read values below =
+        let long = EachBelow-length constructor.arity (members_in m) values below in
+        ap (λ n. slice_index table (place (replicate constructor.arity n) values))
+        (members-by_type m by_type)
+        ∙ ap (λ n. slice_index table (place (replicate n m.model.size) values)) long
+        ∙ ap (λ t. slice_index t (place (replicate (length values) m.model.size) values)) table_read
+        ∙ sym (entry_is m.choices m.normal m.model own_number values plain)
+        ∙ constructor-by_type m by_type c values
+
+    pub table-by_type : IsTableOver m c constructor.arity table
+    table-by_type = record {
+      fills = λ some.
+          let same = ap length table_read in
+          ap length table_read
+          ∙ constructor_long m.choices m.normal m.model ready.well_formed c constructor found
+          (omega (arith, same, some))
+          ∙ ap (λ n. tuple_count (replicate constructor.arity n)) (sym (members-by_type m by_type));
+      none = λ none values below.
+          entry_none table (place (replicate constructor.arity (members_in m)) values) none
+          ∙ entry_read values below;
+      gives = entry_read;
+    }
 
 module _ (m : Parts) (ready : IsMarked m) (fits : IsStructure m.normal.signature (typed_in m)) where
   abbrev size : ℕ
   size = m.model.size
 
+  abbrev count : ℕ
+  count = members_in m
+
   abbrev signature : Signature
   signature = m.normal.signature
 
-  pub count_is : length (typed_in m).sizes ≡ m.model.size
-  count_is = length-listed size 0 (λ n. count_below size (picks_in m n))
+  pub count_is : length (typed_in m).sizes ≡ members_in m
+  count_is = length-listed count 0 (λ n. count_below size (picks_in m n))
 
   give : (i : ℕ) (constructor : Constructor) (members : List ℕ) →
       slice_get m.normal.signature.constructors i ≡ Some constructor →
-      EachBelow (replicate constructor.arity m.model.size) members →
-      (typed_in m).constructor_at i members < m.model.size
+      EachBelow (replicate constructor.arity (members_in m)) members →
+      (typed_in m).constructor_at i members < members_in m
   give i constructor members at below =
       subst (λ n. (typed_in m).constructor_at i members < n) count_is
       (fits.constructors i constructor members at
@@ -112,58 +132,43 @@ module _ (m : Parts) (ready : IsMarked m) (fits : IsStructure m.normal.signature
 
   pub member_small : (variables : ℕ) (members : List ℕ) (ty : Ty) →
       IsType m.normal.signature variables ty →
-      EachBelow (replicate variables m.model.size) members →
-      member_of (typed_in m) members ty < m.model.size
-  member_small = type_value_below signature (typed_in m).constructor_at size give
+      EachBelow (replicate variables (members_in m)) members →
+      member_of (typed_in m) members ty < members_in m
+  member_small = type_value_below signature (typed_in m).constructor_at count give
 
   pub members_small : (variables : ℕ) (members : List ℕ) (types : List Ty) →
       AreTypes m.normal.signature variables types →
-      EachBelow (replicate variables m.model.size) members →
-      EachBelow (replicate (length types) m.model.size)
+      EachBelow (replicate variables (members_in m)) members →
+      EachBelow (replicate (length types) (members_in m))
       (map (member_of (typed_in m) members) types)
-  members_small = type_values_below signature (typed_in m).constructor_at size give
+  members_small = type_values_below signature (typed_in m).constructor_at count give
 
   -- a constructor's table, as code reads it
   module _ (c : ℕ) (constructor : Constructor)
       (found : slice_get m.normal.signature.constructors c ≡ Some constructor)
-      (symbols : List Symbol) (symbols_are : symbols ≡ m.normal.signature.symbols)
-      (table : List ℕ) (table_of : table ≡ table_in m (length symbols + c)) (values : List ℕ)
-      (long : length values ≡ constructor.arity)
+      (table : List ℕ) (table_of : IsConstructorTable m c table) (members : List ℕ)
+      (below : EachBelow (replicate constructor.arity (members_in m)) members)
     where
-      read : table ≡ table_in m (length m.normal.signature.symbols + c)
-      read = table_of ∙ ap (λ (xs : List Symbol). table_in m (length xs + c)) symbols_are
+      over : IsTableOver m c constructor.arity table
+      over = table_of constructor found
 
-      plain : is_tag m.choices m.normal (length signature.symbols + c) ≡ false
-      plain =
-          plain_number m.choices m.normal ready.by_type (length signature.symbols + c)
-          (omega (arith, slice_get_within signature.constructors c constructor found))
+      long : constructor.arity ≡ length members
+      long = EachBelow-length constructor.arity count members below
 
       pub constructor_fills : (length table ≡ 0 → ⊥) →
-          length table ≡ tuple_count (replicate (length values) m.model.size)
+          length table ≡ tuple_count (replicate (length members) (members_in m))
       constructor_fills some =
-          let same : length table ≡ length (table_in m (length signature.symbols + c)) =
-          ap length read in
-          let more : 0 < length table = omega (arith, some) in
-          same
-          ∙ constructor_long m.choices m.normal ready.by_type m.model ready.well_formed c constructor
-          found
-          (omega (arith, same, more))
-          ∙ ap (λ n. tuple_count (replicate n size)) (sym long)
+          over.fills some ∙ ap (λ n. tuple_count (replicate n count)) long
 
-      pub constructor_none : length table ≡ 0 → 0 ≡ (typed_in m).constructor_at c values
-      constructor_none none =
-          entry_none table (place (replicate (length values) size) values) none
-          ∙ ap (λ t. slice_index t (place (replicate (length values) size) values)) read
-          ∙ sym (entry_is m.choices m.normal ready.by_type m.model (length signature.symbols + c)
-          values plain)
+      pub constructor_none : length table ≡ 0 → 0 ≡ (typed_in m).constructor_at c members
+      constructor_none none = over.none none members below
 
-      pub constructor_is : (at : ℕ) → at ≡ place (replicate (length values) m.model.size) values →
-          slice_index table at ≡ (typed_in m).constructor_at c values
+      pub constructor_is : (at : ℕ) → at ≡ place (replicate (length members) (members_in m)) members →
+          slice_index table at ≡ (typed_in m).constructor_at c members
       constructor_is at is =
           ap (slice_index table) is
-          ∙ ap (λ t. slice_index t (place (replicate (length values) size) values)) read
-          ∙ sym (entry_is m.choices m.normal ready.by_type m.model (length signature.symbols + c)
-          values plain)
+          ∙ ap (λ n. slice_index table (place (replicate n count) members)) (sym long)
+          ∙ over.gives members below
 
   -- the member that an application is
   module _ (variables : ℕ) (members : List ℕ) (ty : Ty) (c : ℕ) (types : List Ty)
@@ -174,66 +179,67 @@ module _ (m : Parts) (ready : IsMarked m) (fits : IsStructure m.normal.signature
           × (length types ≡ constructor.arity) × AreTypes m.normal.signature variables types
       applied_parts = application_parts signature variables ty c types is typed
 
-      pub applied_member : (typed_in m).constructor_at c (map (member_of (typed_in m) members) types)
+      applied_member : (typed_in m).constructor_at c (map (member_of (typed_in m) members) types)
           ≡ member_of (typed_in m) members ty
       applied_member =
           sym (ap (member_of (typed_in m) members) is
           ∙ type_value-apply (typed_in m).constructor_at members c types)
 
-      module _ (symbols : List Symbol) (symbols_are : symbols ≡ m.normal.signature.symbols)
-          (table : List ℕ) (table_of : table ≡ table_in m (length symbols + c))
+      module _ (below : EachBelow (replicate variables (members_in m)) members)
+          (table : List ℕ) (table_of : IsConstructorTable m c table)
         where
           abbrev values : List ℕ
           values = map (member_of (typed_in m) members) types
 
-          long : length values ≡ applied_parts.0.arity
-          long = length-map _ _ ∙ applied_parts.2
+          each_value : EachBelow (replicate applied_parts.0.arity count) values
+          each_value =
+              subst (λ n. EachBelow (replicate n count) values) applied_parts.2
+              (members_small variables members types applied_parts.3 below)
 
           pub applied_fills : (length table ≡ 0 → ⊥) →
-              length table ≡ tuple_count (replicate (length types) m.model.size)
+              length table ≡ tuple_count (replicate (length types) (members_in m))
           applied_fills some =
-              constructor_fills c applied_parts.0 applied_parts.1 symbols symbols_are table table_of
-              values long some
-              ∙ ap (λ n. tuple_count (replicate n size)) (length-map _ _)
+              constructor_fills c applied_parts.0 applied_parts.1 table table_of values each_value
+              some
+              ∙ ap (λ n. tuple_count (replicate n count)) (length-map _ _)
 
           pub applied_none : length table ≡ 0 → 0 ≡ member_of (typed_in m) members ty
           applied_none none =
-              constructor_none c applied_parts.0 applied_parts.1 symbols symbols_are table table_of
-              values long none
+              constructor_none c applied_parts.0 applied_parts.1 table table_of values each_value
+              none
               ∙ applied_member
 
           pub applied_inside : (at : ℕ) → (length table ≡ 0 → ⊥) →
-              IsPlaced (replicate (length types) m.model.size)
+              IsPlaced (replicate (length types) (members_in m))
               (map (member_of (typed_in m) members) types) at →
               at < length table
           applied_inside at some placed =
               omega (
                 arith,
                 applied_fills some,
-                placed_within (replicate (length types) size) values at placed,
+                placed_within (replicate (length types) count) values at placed,
               )
 
           pub applied_is : (at : ℕ) →
-              IsPlaced (replicate (length types) m.model.size)
+              IsPlaced (replicate (length types) (members_in m))
               (map (member_of (typed_in m) members) types) at →
               slice_index table at ≡ member_of (typed_in m) members ty
           applied_is at placed =
-              constructor_is c applied_parts.0 applied_parts.1 symbols symbols_are table table_of
-              values long at
+              constructor_is c applied_parts.0 applied_parts.1 table table_of values each_value at
               (placed.place_is
-              ∙ ap (λ n. place (replicate n size) values) (sym (length-map _ _)))
+              ∙ ap (λ n. place (replicate n count) values) (sym (length-map _ _)))
               ∙ applied_member
 
   -- sizes of members
-  pub size_is : (member : ℕ) → member < m.model.size →
+  pub size_is : (member : ℕ) → member < members_in m →
       size_of (typed_in m) member ≡ count_below m.model.size (picks_in m member)
   size_is member within =
       let e : 0 + member ≡ member = omega arith in
-      listed-at size 0 member (λ n. count_below size (picks_in m n)) within
+      listed-at count 0 member (λ n. count_below size (picks_in m n)) within
       ∙ ap (λ n. count_below size (picks_in m n)) e
 
   module _ (variables : ℕ) (members : List ℕ)
-      (below : EachBelow (replicate variables m.model.size) members)
+      (below : EachBelow (replicate variables (members_in m)) members)
     where
       abbrev lift : Lift
       lift = lift_in m
@@ -290,30 +296,31 @@ module _ (m : Parts) (ready : IsMarked m) (fits : IsStructure m.normal.signature
 
   pub constructor_members : (arity : ℕ) (members : List ℕ) →
       EachBelow (replicate arity (length (typed_in m).sizes)) members →
-      (EachBelow (replicate (length members) m.model.size) members) × (length members ≡ arity)
+      (EachBelow (replicate (length members) (members_in m)) members)
+      × (length members ≡ arity) × EachBelow (replicate arity (members_in m)) members
   constructor_members arity members below =
-      let here : EachBelow (replicate arity size) members =
+      let here : EachBelow (replicate arity count) members =
       subst (λ n. EachBelow (replicate arity n) members) count_is below in
-      let long = EachBelow-length arity size members here in
-      (subst (λ n. EachBelow (replicate n size) members) long here, sym long)
+      let long = EachBelow-length arity count members here in
+      (subst (λ n. EachBelow (replicate n count) members) long here, sym long, here)
 
   -- members and elements for a symbol
-  module _ (symbol : Symbol) (typed : IsSymbol m.normal.signature symbol)
+  module _ (symbol : Symbol) (typed : IsSymbolIn m symbol)
       (members elements : List ℕ) (are : AreArguments (typed_in m) symbol members elements)
     where
       abbrev keeps : List Bool
       keeps = m.choices.keeps symbol
 
-      pub members_below : EachBelow (replicate symbol.parameters m.model.size) members
+      pub members_below : EachBelow (replicate symbol.parameters (members_in m)) members
       members_below =
           subst (λ n. EachBelow (replicate symbol.parameters n) members) count_is are.for_parameters
 
       pub as_many_members : symbol.parameters ≡ length members
-      as_many_members = EachBelow-length symbol.parameters size members members_below
+      as_many_members = EachBelow-length symbol.parameters count members members_below
 
-      pub each_member : EachBelow (replicate (length members) m.model.size) members
+      pub each_member : EachBelow (replicate (length members) (members_in m)) members
       each_member =
-          subst (λ n. EachBelow (replicate n size) members) as_many_members members_below
+          subst (λ n. EachBelow (replicate n count) members) as_many_members members_below
 
       pub as_many_elements : length elements ≡ length symbol.arguments
       as_many_elements =
@@ -323,10 +330,10 @@ module _ (m : Parts) (ready : IsMarked m) (fits : IsStructure m.normal.signature
           ty ≡ get_or symbol.arguments i ty → IsType m.normal.signature (length members) ty
       argument_typed i ty within is =
           subst (λ n. IsType m.normal.signature n ty) as_many_members
-          (type_at signature symbol.parameters i symbol.arguments ty within is typed.arguments)
+          (type_at signature symbol.parameters i symbol.arguments ty within is typed.typed.arguments)
 
       pub argument_member : (i : ℕ) (ty : Ty) → i < length symbol.arguments →
-          ty ≡ get_or symbol.arguments i ty → member_of (typed_in m) members ty < m.model.size
+          ty ≡ get_or symbol.arguments i ty → member_of (typed_in m) members ty < members_in m
       argument_member i ty within is =
           member_small (length members) members ty (argument_typed i ty within is) each_member
 
@@ -336,7 +343,7 @@ module _ (m : Parts) (ready : IsMarked m) (fits : IsStructure m.normal.signature
           < count_below m.model.size (picks_in m (member_of (typed_in m) members ty))
       argument_element i ty within is =
           element_below symbol.parameters members members_below symbol.arguments elements i ty
-          typed.arguments are.for_arguments within is
+          typed.typed.arguments are.for_arguments within is
 
       few : length keeps ≤ length members
       few = omega (arith, few_kept m.choices ready.kept_types symbol, as_many_members)
@@ -349,17 +356,24 @@ module _ (m : Parts) (ready : IsMarked m) (fits : IsStructure m.normal.signature
       kept_long : length (selected keeps members) ≡ kept_count m.choices symbol
       kept_long = length-selected keeps members few
 
+      numbers_below : (k : Marking) → m.choices.marking ≡ k →
+          EachBelow (replicate (length members) size) members
+      numbers_below ByType is =
+          subst (λ n. EachBelow (replicate (length members) n) members) (members-by_type m is)
+          each_member
+      numbers_below BySort is = none_below size members (sym as_many_members ∙ typed.plain is)
+
       kept_below : EachBelow (replicate (kept_count m.choices symbol) size) (selected keeps members)
       kept_below =
           subst (λ n. EachBelow (replicate n size) (selected keeps members)) kept_long
-          (selected_below size keeps members each_member)
+          (selected_below size keeps members (numbers_below m.choices.marking refl))
 
       pub each_number : EachBelow (bounds_in m symbol) (numbers_in m symbol members elements)
       each_number =
           joined_below size (kept_count m.choices symbol) (length symbol.arguments)
           (selected keeps members) _ kept_below
           (numbers_small symbol.parameters members members_below symbol.arguments elements
-          typed.arguments are.for_arguments)
+          typed.typed.arguments are.for_arguments)
 
       -- how many of the first type arguments are kept
       abbrev count_so_far : ℕ → ℕ
@@ -407,7 +421,7 @@ module _ (m : Parts) (ready : IsMarked m) (fits : IsStructure m.normal.signature
 
           symbol_plain : is_tag m.choices m.normal f ≡ false
           symbol_plain =
-              plain_number m.choices m.normal ready.by_type f
+              plain_number m.choices m.normal f
               (omega (arith, slice_get_within m.normal.signature.symbols f symbol found))
 
           symbol_occurs : (length table ≡ 0 → ⊥) → occurs_in m.choices m.normal f ≡ true
@@ -418,7 +432,7 @@ module _ (m : Parts) (ready : IsMarked m) (fits : IsStructure m.normal.signature
               length table ≡ tuple_count (bounds_in m symbol)
           occurs_fills is =
               ap length table_of
-              ∙ symbol_long m.choices m.normal ready.by_type m.model ready.well_formed f symbol found
+              ∙ symbol_long m.choices m.normal m.model ready.well_formed f symbol found
               is
 
           pub symbol_fills : (length table ≡ 0 → ⊥) →
@@ -436,7 +450,7 @@ module _ (m : Parts) (ready : IsMarked m) (fits : IsStructure m.normal.signature
               entry_none table _ none
               ∙ ap (λ t. slice_index t (place (replicate (length (numbers_in m symbol members elements))
               size) (numbers_in m symbol members elements))) table_of
-              ∙ sym (entry_is m.choices m.normal ready.by_type m.model f
+              ∙ sym (entry_is m.choices m.normal m.model f
               (numbers_in m symbol members elements) symbol_plain)
 
           pub symbol_is : (at : ℕ) →
@@ -448,7 +462,7 @@ module _ (m : Parts) (ready : IsMarked m) (fits : IsStructure m.normal.signature
               (placed.place_is
               ∙ ap (λ n. place (replicate n size) (numbers_in m symbol members elements))
               (sym as_many_numbers))
-              ∙ sym (entry_is m.choices m.normal ready.by_type m.model f
+              ∙ sym (entry_is m.choices m.normal m.model f
               (numbers_in m symbol members elements) symbol_plain)
 
           placed_numbers : IsPlaced (bounds_in m symbol) (numbers_in m symbol members elements)
@@ -464,7 +478,7 @@ module _ (m : Parts) (ready : IsMarked m) (fits : IsStructure m.normal.signature
               subst (λ t. at < length t) table_of (symbol_inside at some placed_numbers) in
               subst (λ n. n < m.model.size)
               (ap (λ t. slice_index t at) (sym table_of) ∙ symbol_is at placed_numbers)
-              (symbol_below m.choices m.normal ready.by_type m.model ready.well_formed f symbol found
+              (symbol_below m.choices m.normal m.model ready.well_formed f symbol found
               ty gives at inside)
 
           -- an absent symbol gives zeros
@@ -509,14 +523,22 @@ module _ (m : Parts) (ready : IsMarked m) (fits : IsStructure m.normal.signature
                 ∙ given_is
 
             pub rank_is : (ty : Ty) → symbol.result ≡ Some ty →
-                count_below (read_as m.choices.elements
-                (mark_in m (member_of (typed_in m) members ty)) (entry_in m f symbol members elements))
+                count_below ((lift_in m).into (member_of (typed_in m) members ty)
+                (entry_in m f symbol members elements))
                 (picks_in m (member_of (typed_in m) members ty))
                 ≡ (typed_in m).symbol_at f members elements
             rank_is ty gives =
                 sym (ap (λ (o : Option Ty). lifted_value (lift_in m) members o
                 (entry_in m f symbol members elements)) gives)
                 ∙ given_is
+
+-- a symbol of the signature
+pub symbol_in : (m : Parts) → IsMarked m → (f : ℕ) (symbol : Symbol) →
+    slice_get m.normal.signature.symbols f ≡ Some symbol → IsSymbolIn m symbol
+symbol_in m ready f symbol at = record {
+  typed = symbol_typed m.normal.signature m.normal.signature.symbols f symbol at ready.signature;
+  plain = λ by_sort. parameters_none m.normal (ready.monomorphic by_sort) f symbol at;
+}
 
 -- a symbol as code reads it
 pub stated_is : (symbols found : List Symbol) (f : ℕ) (symbol stated : Symbol) →

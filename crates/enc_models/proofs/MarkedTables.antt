@@ -2,7 +2,7 @@
 use Rattle.std.specs.Prelude.{ℕ, zero, suc, ◌≡◌, ◌<◌, ◌≤◌, ◌+◌, ◌*◌, ◌++◌, Bool, true, false, List, [], ◌∷◌, length, replicate, cond, is_none, not, ◌&&◌, get_or, slice_get, slice_index, option_map, Option, Some, None}
 use Rattle.std.proofs.Common.{refl, sym, ap, subst, ◌∙◌, arith, ⊎_elim}
 use Rattle.std.proofs.lemmas.Bool.{cases_Bool, cases_lt, le-leb, lt-leb}
-use Rattle.std.proofs.lemmas.List.{get_or_append_left, get_or_push, get_or_default}
+use Rattle.std.proofs.lemmas.List.{length-append, get_or_append_left, get_or_push, get_or_default}
 use Rattle.std.proofs.lemmas.Option.{slice_get-map, slice_get-get_or, slice_get_within}
 use Rattle.enc_base.specs.Tables.{tuple_count, place}
 use Rattle.enc_base.proofs.Tables.{place_within}
@@ -10,23 +10,24 @@ use Rattle.tf_core.specs.declared.ty.Ty.{Ty}
 use Rattle.tf_core.specs.declared.signature.Constructor.{Constructor}
 use Rattle.tf_core.specs.declared.signature.Symbol.{Symbol}
 use Rattle.tf_core.specs.declared.normal.Normal.{Normal}
+use Rattle.tf_core.specs.Sorts.{sorts}
 use Rattle.fof_models.specs.declared.structure.Structure.{Structure}
 use Rattle.fof_models.specs.Structures.{table_of, reading, IsWellFormed}
 use Rattle.enc_marks.specs.declared.mark.Mark.{Mark}
 use Rattle.enc_marks.specs.declared.mark.Mark.TheVariants as mark
-use Rattle.enc_marks.specs.declared.choices.Marking.TheVariants.{ByType}
+use Rattle.enc_marks.specs.declared.choices.Marking.{Marking}
+use Rattle.enc_marks.specs.declared.choices.Marking.TheVariants.{ByType, BySort}
 use Rattle.enc_marks.specs.declared.choices.Binding.{Binding}
 use Rattle.enc_marks.specs.declared.choices.Binding.TheVariants.{ByGuard, ByTag}
 use Rattle.enc_marks.specs.Choices.{Choices}
 use Rattle.enc_marks.specs.Occurrence.{count_below, passing}
-use Rattle.enc_marks.specs.Encoded.{MarkedSymbol, shared_mark, all_marks, encoded, is_guard}
+use Rattle.enc_marks.specs.Encoded.{MarkedSymbol, shared_mark, sort_mark, mark_of, sort_mark_of, sort_marks, marked_symbols, marked_constructors, own_marks, all_marks, encoded, is_guard}
 use Rattle.enc_laws.specs.MergedStructure.{kept_count}
 use Rattle.enc_laws.specs.Present.{is_tag, last_of}
 use Rattle.enc_marks.proofs.SoundMarks.{slice_get-passing, symbol-at, constructor-at, shared-at}
-use Rattle.enc_laws.proofs.MarksFound.{passing_found, map_found}
+use Rattle.enc_laws.proofs.MarksFound.{passing_found, map_found, InLists, in_first, in_second, lists_found, symbol_found, constructor_found, length-symbols, length-constructors}
 use Rattle.enc_models.specs.LiftedTables.{marked_structure}
 use Rattle.enc_models.specs.Calls.Lifting.{Parts, occurs_in, mark_count, mark_number, mark_in, place_in, table_in, ArePlaces, marked_table}
-use Rattle.enc_models.proofs.Marks.{IsStanding, length-all_marks, stands_at}
 
 -- what holds of each item holds with one item more
 pub each_pushed : {A : Type 0} (P : ℕ → A → Type 0) (items : List A) (d item : A) (n : ℕ) →
@@ -53,7 +54,45 @@ place_none : (b : Bool) (n : ℕ) → cond b (Some n) None ≡ None → b ≡ fa
 place_none true n is = cc
 place_none false n is = refl
 
-module _ (c : Choices) (normal : Normal) (by_type : c.marking ≡ ByType) where
+-- the number of a guard or tag
+
+sort_mark_found : (normal : Normal) (binding : Binding) (n : ℕ) (types : List Ty) (i : ℕ)
+    (one : MarkedSymbol) → slice_get (sort_marks normal binding n types) i ≡ Some one →
+    one.mark ≡ sort_mark_of binding (n + i)
+sort_mark_found normal binding n [] i one found = cc
+sort_mark_found normal binding n (ty ∷ types) zero one found =
+    let same : sort_mark normal binding n ty ≡ one = cc in
+    let e : n ≡ n + 0 = omega arith in
+    ap (λ (marked : MarkedSymbol). marked.mark) (sym same) ∙ ap (sort_mark_of binding) e
+sort_mark_found normal binding n (ty ∷ types) (suc i) one found =
+    let e : n + 1 + i ≡ n + suc i = omega arith in
+    sort_mark_found normal binding (n + 1) types i one found ∙ ap (sort_mark_of binding) e
+
+own_number : (normal : Normal) (binding : Binding) (marking : Marking) (symbols constructors : ℕ)
+    (i : ℕ) (one : MarkedSymbol) → slice_get (own_marks normal binding marking) i ≡ Some one →
+    mark_number symbols constructors one.mark ≡ symbols + constructors + i
+own_number normal binding ByType symbols constructors zero one found =
+    let same : shared_mark binding ≡ one = cc in
+    let e : symbols + constructors ≡ symbols + constructors + 0 = omega arith in
+    ap (λ (marked : MarkedSymbol). mark_number symbols constructors marked.mark) (sym same)
+    ∙ (by binding ∙ e)
+  where
+    by : (b : Binding) → mark_number symbols constructors (mark_of b) ≡ symbols + constructors
+    by ByGuard = refl
+    by ByTag = refl
+own_number normal binding ByType symbols constructors (suc i) one found = cc
+own_number normal binding BySort symbols constructors i one found =
+    let e : 0 + i ≡ i = omega arith in
+    ap (mark_number symbols constructors)
+    (sort_mark_found normal binding 0 (sorts normal) i one found)
+    ∙ by binding (0 + i) ∙ ap (λ n. symbols + constructors + n) e
+  where
+    by : (b : Binding) (s : ℕ) →
+        mark_number symbols constructors (sort_mark_of b s) ≡ symbols + constructors + s
+    by ByGuard s = refl
+    by ByTag s = refl
+
+module _ (c : Choices) (normal : Normal) where
   abbrev symbols : ℕ
   symbols = length normal.signature.symbols
 
@@ -66,25 +105,53 @@ module _ (c : Choices) (normal : Normal) (by_type : c.marking ≡ ByType) where
   abbrev marked : List MarkedSymbol
   marked = all_marks c normal
 
-  pub all_marks-count : length (all_marks c normal) ≡ mark_count normal
-  all_marks-count = omega (arith, length-all_marks c normal by_type)
+  pub all_marks-count : length (all_marks c normal) ≡ mark_count c normal
+  all_marks-count =
+      omega (
+        arith,
+        length-append (marked_symbols c 0 normal.signature.symbols)
+            (marked_constructors normal 0 normal.signature.constructors
+            ++ own_marks normal c.binding c.marking),
+        length-append (marked_constructors normal 0 normal.signature.constructors)
+            (own_marks normal c.binding c.marking),
+        length-symbols c 0 normal.signature.symbols,
+        length-constructors normal 0 normal.signature.constructors,
+      )
 
   -- the number of a marked symbol by its mark
+
+  number_behind : (behind : ℕ) (one : MarkedSymbol) →
+      InLists (marked_constructors normal 0 normal.signature.constructors)
+      (own_marks normal c.binding c.marking) behind one →
+      mark_number symbols constructors one.mark ≡ symbols + behind
+  number_behind behind one (in_first found) =
+      let at = constructor_found normal 0 normal.signature.constructors behind one found in
+      let e : 0 + behind ≡ behind = omega arith in
+      ap (λ (marked : MarkedSymbol). mark_number symbols constructors marked.mark) at.2
+      ∙ ap (λ n. symbols + n) e
+  number_behind behind one (in_second i same found) =
+      own_number normal c.binding c.marking symbols constructors i one found
+      ∙ omega (arith, same, length-constructors normal 0 normal.signature.constructors)
+
   pub number_is : (number : ℕ) (one : MarkedSymbol) →
       slice_get (all_marks c normal) number ≡ Some one →
       mark_number symbols constructors one.mark ≡ number
-  number_is number one found = by one.mark refl
+  number_is number one found =
+      by (lists_found (marked_symbols c 0 normal.signature.symbols) _ number one found)
     where
-      standing : IsStanding c normal c.binding number one
-      standing = stands_at c normal by_type number one found
-
-      by : (kind : Mark) → one.mark ≡ kind → mark_number symbols constructors kind ≡ number
-      by (mark.Symbol f) is = sym (standing.on_symbol f is).0
-      by (mark.Constructor i) is = sym (standing.on_constructor i is).0
-      by mark.Guard is = sym (standing.on_guard is).0
-      by mark.Tag is = sym (standing.on_tag is).0
-      by (mark.SortGuard s) is = absurd (standing.no_sort_guard s is)
-      by (mark.SortTag s) is = absurd (standing.no_sort_tag s is)
+      by : InLists (marked_symbols c 0 normal.signature.symbols)
+          (marked_constructors normal 0 normal.signature.constructors
+          ++ own_marks normal c.binding c.marking) number one →
+          mark_number symbols constructors one.mark ≡ number
+      by (in_first there) =
+          let at = symbol_found c 0 normal.signature.symbols number one there in
+          let e : 0 + number ≡ number = omega arith in
+          ap (λ (marked : MarkedSymbol). mark_number symbols constructors marked.mark) at.2 ∙ e
+      by (in_second behind same there) =
+          number_behind behind one
+          (lists_found (marked_constructors normal 0 normal.signature.constructors)
+          (own_marks normal c.binding c.marking) behind one there)
+          ∙ omega (arith, same, length-symbols c 0 normal.signature.symbols)
 
   -- a marked symbol that occurs stands behind as many as occur before it
   passes_at : (number : ℕ) (one : MarkedSymbol) →
@@ -134,7 +201,7 @@ module _ (c : Choices) (normal : Normal) (by_type : c.marking ≡ ByType) where
       ap present (sym same) ∙ ap present (sym e) ∙ stood.1.passes
 
   -- each number is that of a marked symbol
-  numbered_one : (number : ℕ) → number < mark_count normal →
+  numbered_one : (number : ℕ) → number < mark_count c normal →
       slice_get (all_marks c normal) number
       ≡ Some (get_or (all_marks c normal) number (shared_mark ByGuard))
   numbered_one number within =
@@ -142,13 +209,13 @@ module _ (c : Choices) (normal : Normal) (by_type : c.marking ≡ ByType) where
       (omega (arith, within, all_marks-count))
 
   -- where a number occurs, there is a mark for it
-  pub occurs_within : (number : ℕ) → number < mark_count normal → present number ≡ true →
+  pub occurs_within : (number : ℕ) → number < mark_count c normal → present number ≡ true →
       count_below number present < length (encoded c normal).marks
   occurs_within number within is =
       slice_get_within (encoded c normal).marks (count_below number present) _
       (mark_passes number _ (numbered_one number within) is)
 
-  pub occurs_number : (number : ℕ) (kind : Mark) → number < mark_count normal →
+  pub occurs_number : (number : ℕ) (kind : Mark) → number < mark_count c normal →
       present number ≡ true →
       kind ≡ get_or (encoded c normal).marks (count_below number present) kind →
       mark_number symbols constructors kind ≡ number
@@ -179,7 +246,7 @@ module _ (c : Choices) (normal : Normal) (by_type : c.marking ≡ ByType) where
           (ap (λ (ms : List Mark). slice_get ms at) (sym are) ∙ slice_get-get_or marks at other within)
           is
 
-      module _ (inside : number < mark_count normal) (so_far : at ≡ count_below number (occurs_in c normal))
+      module _ (inside : number < mark_count c normal) (so_far : at ≡ count_below number (occurs_in c normal))
         where
           pub fails_past : length marks ≤ at → occurs_in c normal number ≡ false
           fails_past past =
@@ -225,8 +292,8 @@ module _ (c : Choices) (normal : Normal) (by_type : c.marking ≡ ByType) where
           (sym (ap (λ b. cond b (Some (count_below number present)) None) fails))
 
   -- what is read among the places of marks
-  module _ (places : List (Option ℕ)) (are : ArePlaces (occurs_in c normal) (mark_count normal) places)
-      (number : ℕ) (within : number < mark_count normal) (other : Option ℕ)
+  module _ (places : List (Option ℕ)) (are : ArePlaces (occurs_in c normal) (mark_count c normal) places)
+      (number : ℕ) (within : number < mark_count c normal) (other : Option ℕ)
     where
       read : get_or places number other ≡ place_in present number
       read =
@@ -242,7 +309,7 @@ module _ (c : Choices) (normal : Normal) (by_type : c.marking ≡ ByType) where
       read_none is = place_none (present number) (count_below number present) (sym read ∙ is)
 
   module _ (s : Structure) (well : IsWellFormed (encoded c normal).problem.signature s) where
-    pub table_within : (number : ℕ) → number < mark_count normal → occurs_in c normal number ≡ true →
+    pub table_within : (number : ℕ) → number < mark_count c normal → occurs_in c normal number ≡ true →
         count_below number (occurs_in c normal) < length s.tables
     table_within number within is =
         let there = slice_get_within (encoded c normal).problem.signature
@@ -250,7 +317,7 @@ module _ (c : Choices) (normal : Normal) (by_type : c.marking ≡ ByType) where
         omega (arith, there, well.count)
 
     pub table_is : (number at : ℕ) (found : List ℕ) (tables : List (List ℕ)) →
-        number < mark_count normal → occurs_in c normal number ≡ true →
+        number < mark_count c normal → occurs_in c normal number ≡ true →
         count_below number (occurs_in c normal) ≡ at → tables ≡ s.tables →
         found ≡ get_or tables at found → found ≡ marked_table (occurs_in c normal) s number
     table_is number at found tables within occurs is same read =
@@ -271,7 +338,7 @@ module _ (c : Choices) (normal : Normal) (by_type : c.marking ≡ ByType) where
         (well.tables (count_below number present) one.symbol (symbol_passes number one at is)).count
     table_long number one at false is some = absurd (omega (arith, some))
 
-    table_present : (number : ℕ) (one : MarkedSymbol) →
+    pub table_present : (number : ℕ) (one : MarkedSymbol) →
         slice_get (all_marks c normal) number ≡ Some one → present number ≡ true →
         length (marked_table present s number) ≡ tuple_count (replicate one.symbol.arity s.size)
     table_present number one at is =
@@ -312,29 +379,20 @@ module _ (c : Choices) (normal : Normal) (by_type : c.marking ≡ ByType) where
         table_long (symbols + i) _ (constructor-at c normal i constructor at)
         (present (symbols + i)) refl some
 
-    pub mark_long :
-        present (length normal.signature.symbols + length normal.signature.constructors) ≡ true →
-        length (marked_table (occurs_in c normal) s
-        (length normal.signature.symbols + length normal.signature.constructors))
-        ≡ tuple_count (replicate 2 s.size)
-    mark_long is = table_present (symbols + constructors) _ (shared-at c normal by_type) is
-
-    -- the entries of a tag's table are numbers of the domain
-    pub tag_entry : c.binding ≡ ByTag → (i : ℕ) →
-        present (length normal.signature.symbols + length normal.signature.constructors) ≡ true →
-        i < length (marked_table (occurs_in c normal) s
-        (length normal.signature.symbols + length normal.signature.constructors)) →
-        slice_index (marked_table (occurs_in c normal) s
-        (length normal.signature.symbols + length normal.signature.constructors)) i < s.size
-    tag_entry tag i is within =
-        let table : List ℕ = table_of s (count_below (symbols + constructors) present) in
-        let same : table ≡ marked_table present s (symbols + constructors) =
-        sym (ap (λ b. cond b table []) is) in
+    -- a function's entries are numbers of the domain
+    pub function_below : (number : ℕ) (one : MarkedSymbol) →
+        slice_get (all_marks c normal) number ≡ Some one → one.symbol.predicate ≡ false →
+        present number ≡ true → (i : ℕ) →
+        i < length (marked_table (occurs_in c normal) s number) →
+        slice_index (marked_table (occurs_in c normal) s number) i < s.size
+    function_below number one at function is i within =
+        let table : List ℕ = table_of s (count_below number present) in
+        let same : table ≡ marked_table present s number = sym (ap (λ b. cond b table []) is) in
         let inside : i < length table = subst (λ t. i < length t) (sym same) within in
         subst (λ t. slice_index t i < s.size) same
-        (subst (λ (b : Binding). slice_index table i < cond (is_guard b) 2 s.size) tag
-        ((well.tables (count_below (symbols + constructors) present) _
-        (symbol_passes (symbols + constructors) _ (shared-at c normal by_type) is)).below i inside))
+        (subst (λ b. slice_index table i < cond b 2 s.size) function
+        ((well.tables (count_below number present) _ (symbol_passes number one at is)).below i
+        inside))
 
   -- what a marked symbol that is no tag gives stands in its table
   pub entry_is : (s : Structure) (number : ℕ) (values : List ℕ) →
@@ -384,117 +442,3 @@ some_occurs false table some = absurd (some refl)
 pub entry_none : (table : List ℕ) (i : ℕ) → length table ≡ 0 → 0 ≡ slice_index table i
 entry_none [] i none = refl
 entry_none (first ∷ table) i none = absurd (omega (arith, none))
-
--- the place of a pair
-
-pub place_two : (size member number : ℕ) →
-    member * size + number ≡ place (replicate 2 size) (member ∷ number ∷ [])
-place_two size member number = grind arith
-
-pub two_fit : (size member number : ℕ) → member < size → number < size →
-    member * size + number < tuple_count (replicate 2 size)
-two_fit size member number first second =
-    omega (
-      arith,
-      place_two size member number,
-      place_within (replicate 2 size) (member ∷ number ∷ []) (first, (second, tt)),
-    )
-
-abbrev shared_in : Parts → ℕ
-shared_in m = length m.normal.signature.symbols + length m.normal.signature.constructors
-
--- what a guard or tag gives that doesn't occur
-mark_absent : (m : Parts) (member number : ℕ) →
-    occurs_in m.choices m.normal (shared_in m) ≡ false →
-    cond (not (is_guard m.choices.binding)) number 0 ≡ mark_in m member number
-mark_absent m member number fails =
-    sym (ap (λ b. cond b ((reading m.model).symbol_at
-    (count_below (shared_in m) (occurs_in m.choices m.normal)) (member ∷ number ∷ []))
-    (cond (is_tag m.choices m.normal (shared_in m)) number 0)) fails
-    ∙ ap (λ b. cond (b && not (is_guard m.choices.binding)) number 0)
-    (le-leb (shared_in m) (shared_in m) (omega arith)))
-
--- the table of the guard or tag, as code reads it
-module _ (m : Parts) (by_type : m.choices.marking ≡ ByType)
-    (well : IsWellFormed (encoded m.choices m.normal).problem.signature m.model)
-    (symbols : List Symbol) (constructors : List Constructor) (table : List ℕ)
-    (symbols_are : symbols ≡ m.normal.signature.symbols)
-    (constructors_are : constructors ≡ m.normal.signature.constructors)
-    (table_of : table ≡ table_in m (length symbols + length constructors))
-    (member number : ℕ) (member_within : member < m.model.size)
-    (number_within : number < m.model.size)
-  where
-    abbrev shared : ℕ
-    shared = length m.normal.signature.symbols + length m.normal.signature.constructors
-
-    mark_read : table ≡ table_in m shared
-    mark_read =
-        table_of
-        ∙ ap (λ (xs : List Symbol). table_in m (length xs + length constructors)) symbols_are
-        ∙ ap
-        (λ (cs : List Constructor). table_in m (length m.normal.signature.symbols + length cs))
-        constructors_are
-
-    mark_fills : occurs_in m.choices m.normal shared ≡ true →
-        length table ≡ tuple_count (replicate 2 m.model.size)
-    mark_fills is = ap length mark_read ∙ mark_long m.choices m.normal by_type m.model well is
-
-    shared_occurs : (length table ≡ 0 → ⊥) → occurs_in m.choices m.normal shared ≡ true
-    shared_occurs some =
-        some_occurs (occurs_in m.choices m.normal shared) _
-        (λ none. some (ap length mark_read ∙ none))
-
-    pub mark_inside : (length table ≡ 0 → ⊥) → member * m.model.size + number < length table
-    mark_inside some =
-        omega (
-          arith,
-          mark_fills (shared_occurs some),
-          two_fit m.model.size member number member_within number_within,
-        )
-
-    pub mark_is : (length table ≡ 0 → ⊥) →
-        slice_index table (member * m.model.size + number) ≡ mark_in m member number
-    mark_is some =
-        ap (λ t. slice_index t (member * m.model.size + number)) mark_read
-        ∙ ap (slice_index (table_in m shared)) (place_two m.model.size member number)
-        ∙ sym (entry_present m.choices m.normal by_type m.model shared (member ∷ number ∷ [])
-        (shared_occurs some))
-
-    -- an absent guard gives 0, and an absent tag the number itself
-    pub mark_none : length table ≡ 0 →
-        cond (not (is_guard m.choices.binding)) number 0 ≡ mark_in m member number
-    mark_none none =
-        ⊎_elim
-        (λ is. absurd (omega (
-          arith,
-          none,
-          mark_fills is,
-          two_fit m.model.size member number member_within number_within,
-        )))
-        (mark_absent m member number)
-        (cases_Bool (occurs_in m.choices m.normal shared))
-
--- what a tag gives is a number of the domain
-pub mark_below : (m : Parts) → m.choices.marking ≡ ByType →
-    IsWellFormed (encoded m.choices m.normal).problem.signature m.model →
-    m.choices.binding ≡ ByTag → (member number : ℕ) → member < m.model.size →
-    number < m.model.size → mark_in m member number < m.model.size
-mark_below m by_type well tag member number member_within number_within =
-    ⊎_elim
-    (λ is.
-    let inside : place (replicate 2 m.model.size) (member ∷ number ∷ [])
-    < length (table_in m (shared_in m)) =
-    omega (
-      arith,
-      mark_long m.choices m.normal by_type m.model well is,
-      place_two m.model.size member number,
-      two_fit m.model.size member number member_within number_within,
-    ) in
-    subst (λ n. n < m.model.size)
-    (sym (entry_present m.choices m.normal by_type m.model (shared_in m) (member ∷ number ∷ []) is))
-    (tag_entry m.choices m.normal by_type m.model well tag _ is inside))
-    (λ fails.
-    subst (λ n. n < m.model.size)
-    (ap (λ (b : Binding). cond (not (is_guard b)) number 0) (sym tag)
-    ∙ mark_absent m member number fails) number_within)
-    (cases_Bool (occurs_in m.choices m.normal (shared_in m)))

@@ -62,6 +62,7 @@ pub record IsNumbered (c : Choices) (normal : Normal) (at number : ℕ) (one : M
     Type 0 where
   pub found : slice_get (all_marks c normal) number ≡ Some one
   pub is : nth (length (all_marks c normal)) (is_present (translation c normal)) at ≡ number
+  pub occurs : is_present (translation c normal) number ≡ true
 
 pub numbered : (c : Choices) (normal : Normal) (at : ℕ) (one : MarkedSymbol) →
     slice_get (passing (is_present (translation c normal)) 0 (all_marks c normal)) at ≡ Some one →
@@ -84,6 +85,7 @@ numbered c normal at one passes =
         found = facts.at;
         is = ap (nth (length (all_marks c normal)) present) (sym rank)
             ∙ nth-count_below (length (all_marks c normal)) m present within here;
+        occurs = here;
       },
     )
 
@@ -107,7 +109,7 @@ pub record IsStanding (c : Choices) (normal : Normal) (binding : Binding) (numbe
   pub no_sort_tag : (s : ℕ) → one.mark ≡ mark.SortTag s → ⊥
 
 module _ (c : Choices) (normal : Normal) where
-  symbol_stands : (binding : Binding) (n : ℕ) (symbol : Symbol) →
+  pub symbol_stands : (binding : Binding) (n : ℕ) (symbol : Symbol) →
       slice_get normal.signature.symbols n ≡ Some symbol →
       IsStanding c normal binding n (marked_symbol c n symbol)
   symbol_stands binding n symbol found = record {
@@ -121,7 +123,7 @@ module _ (c : Choices) (normal : Normal) where
     no_sort_tag = λ s is. cc;
   }
 
-  constructor_stands : (binding : Binding) (i : ℕ) (constructor : Constructor) →
+  pub constructor_stands : (binding : Binding) (i : ℕ) (constructor : Constructor) →
       slice_get normal.signature.constructors i ≡ Some constructor →
       IsStanding c normal binding (length normal.signature.symbols + i)
       (marked_constructor normal i constructor)

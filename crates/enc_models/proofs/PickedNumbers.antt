@@ -113,6 +113,16 @@ count_below-monotone less (suc bound) test within =
     count_below-suc : (n : ℕ) (test : ℕ → Bool) → count_below n test ≤ count_below (suc n) test
     count_below-suc n test = omega arith
 
+-- all of the smaller numbers pass
+pub count_below-all : (bound : ℕ) (test : ℕ → Bool) →
+    ((number : ℕ) → number < bound → test number ≡ true) → count_below bound test ≡ bound
+count_below-all zero test all = refl
+count_below-all (suc bound) test all =
+    let before = count_below-all bound test (λ number within. all number (omega (arith, within))) in
+    let next = count_below-next bound test true (all bound (omega arith)) in
+    let e : suc bound ≡ bound + 1 = omega arith in
+    omega (arith, before, next, ap (λ n. count_below n test) e)
+
 -- the rank of a number, found among the picked ones
 module _ (test : ℕ → Bool) (bound : ℕ) (picked : List ℕ) (are : ArePicked test bound picked)
     (number i : ℕ) (within : i < length picked)

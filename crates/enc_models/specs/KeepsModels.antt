@@ -6,7 +6,7 @@ use Rattle.tf_core.specs.TypedTables.{TypedTables, AreNormalModel}
 use Rattle.fof_models.specs.declared.problem.FofProblem.{FofProblem}
 use Rattle.fof_models.specs.declared.structure.Structure.{Structure}
 use Rattle.fof_models.specs.Models.{AreModel}
-use Rattle.enc_marks.specs.declared.choices.Domain.TheVariants.{Merged}
+use Rattle.enc_marks.specs.declared.choices.Domain.TheVariants.{Merged, Collapsed}
 use Rattle.enc_marks.specs.declared.choices.Marking.TheVariants.{ByType}
 use Rattle.enc_marks.specs.declared.scheme.Scheme.{Scheme}
 use Rattle.enc_marks.specs.Applies.{Applies}
@@ -42,12 +42,19 @@ pub record KeepsModels (which : Scheme) : Type 0 where
 abbrev pub IsMerged : Scheme → Type 0
 IsMerged which = (normal : Normal) → (choices_of which normal).domain ≡ Merged
 
+-- whatever the problem, models are lowered to the collapsed domain
+abbrev pub IsCollapsed : Scheme → Type 0
+IsCollapsed which = (normal : Normal) → (choices_of which normal).domain ≡ Collapsed
+
 -- whatever the problem, guards and tags have the type as an argument
 abbrev pub IsMarkedByType : Scheme → Type 0
 IsMarkedByType which = (normal : Normal) → (choices_of which normal).marking ≡ ByType
 
 abbrev pub MergedSchemesKeepModels : Type 0
 MergedSchemesKeepModels = (which : Scheme) → IsMerged which → KeepsModels which
+
+abbrev pub CollapsedSchemesLowerModels : Type 0
+CollapsedSchemesLowerModels = (which : Scheme) → IsCollapsed which → LowersModels which
 
 -- all schemes lift models
 abbrev pub SchemesLiftModels : Type 0

@@ -1,4 +1,5 @@
 pub mod Lowered
 pub mod LiftedTables
 pub mod KeepsModels
+pub mod Bare
 pub mod Calls

@@ -26,7 +26,8 @@ pub(crate) struct Block {
 ///
 /// A block is kept with a number for each argument. That is less than the entries that the lowered
 /// table has for it: there are at least two numbers for each argument. So it is at a cover too,
-/// where a member is told by its own number and by the stamps of its elements.
+/// where a member is told by its own number and by the stamps of its elements. A collapsed domain
+/// may have one number alone; then there is one block, and the symbol itself is as long.
 pub(crate) fn blocks_of_marks(
     alloc: Global,
     signature: &Signature,

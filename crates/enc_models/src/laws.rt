@@ -1,6 +1,6 @@
 //! Which schemes keep models, as calls that do nothing.
 
-ghost use Rattle.enc_models.specs.KeepsModels.{MergedSchemesKeepModels, SchemesLiftModels};
+ghost use Rattle.enc_models.specs.KeepsModels.{CollapsedSchemesLowerModels, MergedSchemesKeepModels, SchemesLiftModels};
 
 /// `guards`, `tags` and both cover schemes keep models: the lowered tables of any model of a sound
 /// normal problem are a model of its translation, and the lifted tables of any model of the
@@ -9,8 +9,14 @@ pub fn merged_schemes_keep_models()
     ensures { MergedSchemesKeepModels }
 {}
 
-/// The lifted tables of any model of a translation are a model of the problem, for all schemes: of a
-/// sound normal problem to which the scheme applies.
+/// The lowered tables of any model of a sound normal problem are a model of its translation by
+/// `args`, `erase` or a light scheme, where the scheme applies.
+pub fn collapsed_schemes_lower_models()
+    ensures { CollapsedSchemesLowerModels }
+{}
+
+/// The lifted tables of any model of a translation are a model of the problem, for all schemes: of
+/// a sound normal problem to which the scheme applies.
 pub fn schemes_lift_models()
     ensures { SchemesLiftModels }
 {}

@@ -1,14 +1,14 @@
-ghost use Rattle.std.specs.Prelude.{◌≡◌, ◌≤◌, map, length, replicate, slice_get, Some};
+ghost use Rattle.std.specs.Prelude.{◌≡◌, ◌≤◌, ◌<◌, map, length, replicate, slice_get, Some};
 ghost use Rattle.enc_base.specs.Tables.{EachBelow, tuple_count};
-ghost use Rattle.tf_core.specs.Typing.{IsType, AreTypes, IsSymbol};
+ghost use Rattle.tf_core.specs.Typing.{IsType, AreTypes};
 ghost use Rattle.tf_core.specs.Structures.{member_of, AreArguments};
 ghost use Rattle.enc_base.specs.Tuples.{IsPlaced};
-ghost use Rattle.enc_models.specs.Calls.Lifting.{parts_of, typed_in, bounds_in, numbers_in, entry_in, IsLifting};
+ghost use Rattle.enc_models.specs.Calls.Lifting.{parts_of, typed_in, members_in, bounds_in, numbers_in, entry_in, IsConstructorTable, IsLifting, IsSymbolIn};
 
 use crate::marked::Marked;
 use crate::rows::rank_of;
 use enc_base::List;
-use enc_marks::Choices;
+use enc_marks::{Choices, Marking};
 use structure_tables::TypedSource;
 use tf_core::{Symbol, Ty};
 
@@ -18,6 +18,8 @@ pub(crate) struct Lifting<'a, C> {
     pub marked: &'a Marked<'a, C>,
     /// The numbers that the elements of each member stand for, in rising order.
     pub picked: &'a [List<u32>],
+    /// The tables of the constructors, where members are sorts.
+    pub formed: &'a [List<u32>],
 }
 
 impl<C: Choices> TypedSource for Lifting<'_, C> {
@@ -25,11 +27,11 @@ impl<C: Choices> TypedSource for Lifting<'_, C> {
 
     ghost structure = { λ it. typed_in (parts_of C.choices it.marked.now) };
 
-    ghost is_ready = { λ it. IsLifting (parts_of C.choices it.marked.now) it.picked.now };
+    ghost is_ready = { λ it. IsLifting (parts_of C.choices it.marked.now) it.picked.now
+        it.formed.now };
 
     fn constructor_value(&self, constructor: u32, members: &[u32]) -> u32 {
-        let symbols = self.marked.normal.signature.symbols.as_slice().len();
-        let table = self.marked.table(symbols + constructor as usize);
+        let table = self.constructor_table(constructor);
         if table.len() == 0 {
             return 0;
         }
@@ -55,18 +57,36 @@ impl<C: Choices> TypedSource for Lifting<'_, C> {
 }
 
 impl<C: Choices> Lifting<'_, C> {
+    // the table of a constructor over members, or nothing where it gives 0 throughout
+    fn constructor_table(&self, c: u32) -> &[u32]
+        requires ready { IsLifting (parts_of C.choices self.now.marked.now) self.now.picked.now
+            self.now.formed.now }
+        requires constructor { c < length self.now.marked.now.normal.now.signature.constructors }
+        ensures { IsConstructorTable (parts_of C.choices self.now.marked.now) c result.now }
+    {
+        match self.marked.choices.marking() {
+            Marking::ByType => {
+                let symbols = self.marked.normal.signature.symbols.as_slice().len();
+                self.marked.table(symbols + c as usize)
+            }
+            Marking::BySort => self.formed[c as usize].as_slice(),
+        }
+    }
+
     // the place of a tuple of members, in a table with an entry for each tuple
     fn place_of_members(&self, members: &[u32], table: &[u32]) -> usize
+        requires ready { IsLifting (parts_of C.choices self.now.marked.now) self.now.picked.now
+            self.now.formed.now }
         requires members { EachBelow (replicate (length members.now)
-            self.now.marked.now.model.now.size) members.now }
+            (members_in (parts_of C.choices self.now.marked.now))) members.now }
         requires entries { tuple_count
-            (replicate (length members.now) self.now.marked.now.model.now.size) ≤ length table.now }
-        ensures { IsPlaced (replicate (length members.now) self.now.marked.now.model.now.size)
+            (replicate (length members.now) (members_in (parts_of C.choices self.now.marked.now))) ≤ length table.now }
+        ensures { IsPlaced (replicate (length members.now) (members_in (parts_of C.choices self.now.marked.now)))
             members.now result }
     {
         let mut at = 0usize;
         for member in members {
-            at = at * self.marked.model.size as usize + *member as usize;
+            at = at * self.picked.len() + *member as usize;
         }
         at
     }
@@ -74,9 +94,10 @@ impl<C: Choices> Lifting<'_, C> {
     // the member that a type is, under members for its variables
     #[cycle(member_of)]
     fn member_of(&self, ty: &Ty, members: &[u32]) -> u32
-        requires ready { IsLifting (parts_of C.choices self.now.marked.now) self.now.picked.now }
+        requires ready { IsLifting (parts_of C.choices self.now.marked.now) self.now.picked.now
+            self.now.formed.now }
         requires members { EachBelow (replicate (length members.now)
-            self.now.marked.now.model.now.size) members.now }
+            (members_in (parts_of C.choices self.now.marked.now))) members.now }
         requires typed { IsType self.now.marked.now.normal.now.signature (length members.now)
             ty.now }
         ensures { result ≡ member_of (typed_in (parts_of C.choices self.now.marked.now)) members.now
@@ -85,8 +106,7 @@ impl<C: Choices> Lifting<'_, C> {
         match ty {
             Ty::Var(i) => members[*i as usize],
             Ty::Apply(c, types) => {
-                let symbols = self.marked.normal.signature.symbols.as_slice().len();
-                let table = self.marked.table(symbols + *c as usize);
+                let table = self.constructor_table(*c);
                 if table.len() == 0 {
                     return 0;
                 }
@@ -99,21 +119,22 @@ impl<C: Choices> Lifting<'_, C> {
     // the place of the tuple of the members that types are
     #[cycle(member_of)]
     fn place_of_types(&self, types: &[Ty], members: &[u32], table: &[u32]) -> usize
-        requires ready { IsLifting (parts_of C.choices self.now.marked.now) self.now.picked.now }
+        requires ready { IsLifting (parts_of C.choices self.now.marked.now) self.now.picked.now
+            self.now.formed.now }
         requires members { EachBelow (replicate (length members.now)
-            self.now.marked.now.model.now.size) members.now }
+            (members_in (parts_of C.choices self.now.marked.now))) members.now }
         requires typed { AreTypes self.now.marked.now.normal.now.signature (length members.now)
             types.now }
         requires entries { tuple_count
-            (replicate (length types.now) self.now.marked.now.model.now.size) ≤ length table.now }
-        ensures { IsPlaced (replicate (length types.now) self.now.marked.now.model.now.size)
+            (replicate (length types.now) (members_in (parts_of C.choices self.now.marked.now))) ≤ length table.now }
+        ensures { IsPlaced (replicate (length types.now) (members_in (parts_of C.choices self.now.marked.now)))
             (map (member_of (typed_in (parts_of C.choices self.now.marked.now)) members.now)
             types.now) result }
     {
         let mut at = 0usize;
         for ty in types {
             let member = self.member_of(ty, members);
-            at = at * self.marked.model.size as usize + member as usize;
+            at = at * self.picked.len() + member as usize;
         }
         at
     }
@@ -121,7 +142,8 @@ impl<C: Choices> Lifting<'_, C> {
     // what the table of a symbol gives for the members that are kept and the numbers that elements
     // stand for
     fn entry(&self, f: u32, symbol: &Symbol, members: &[u32], elements: &[u32]) -> u32
-        requires ready { IsLifting (parts_of C.choices self.now.marked.now) self.now.picked.now }
+        requires ready { IsLifting (parts_of C.choices self.now.marked.now) self.now.picked.now
+            self.now.formed.now }
         requires at { slice_get self.now.marked.now.normal.now.signature.symbols f
             ≡ Some symbol.now }
         requires arguments { AreArguments (typed_in (parts_of C.choices self.now.marked.now))
@@ -147,8 +169,9 @@ impl<C: Choices> Lifting<'_, C> {
         elements: &[u32],
         table: &[u32],
     ) -> usize
-        requires ready { IsLifting (parts_of C.choices self.now.marked.now) self.now.picked.now }
-        requires typed { IsSymbol self.now.marked.now.normal.now.signature symbol.now }
+        requires ready { IsLifting (parts_of C.choices self.now.marked.now) self.now.picked.now
+            self.now.formed.now }
+        requires typed { IsSymbolIn (parts_of C.choices self.now.marked.now) symbol.now }
         requires kept { kept.now ≡ (C.choices self.now.marked.now.choices.now).keeps symbol.now }
         requires arguments { AreArguments (typed_in (parts_of C.choices self.now.marked.now))
             symbol.now members.now elements.now }

@@ -1,6 +1,6 @@
 ghost use Rattle.std.specs.Prelude.{◌≡◌, ◌<◌, ◌≤◌, ◌^◌, Bool, ℕ, length, IfOk};
 ghost use Rattle.enc_marks.specs.Occurrence.{count_below};
-ghost use Rattle.enc_models.specs.Calls.Lifting.{parts_of, picks_in, typed_in, ArePicked, AreRows, IsMarked};
+ghost use Rattle.enc_models.specs.Calls.Lifting.{parts_of, members_in, picks_in, typed_in, ArePicked, AreRows, IsMarked};
 
 use crate::marked::Marked;
 use enc_base::{List, NoMemory};
@@ -15,19 +15,21 @@ pub(crate) struct Rows {
 }
 
 impl<C: Choices> Marked<'_, C> {
-    /// The elements of each member, where the domain has so many numbers.
-    pub fn rows(&self, alloc: Global, bound: u32) -> Result<Rows, NoMemory>
+    /// The elements of each of so many members, where the domain has so many numbers.
+    pub fn rows(&self, alloc: Global, members: u32, bound: u32) -> Result<Rows, NoMemory>
         requires ready { IsMarked (parts_of C.choices self.now) }
+        requires members { members ≡ members_in (parts_of C.choices self.now) }
         requires bound { bound ≡ self.now.model.now.size }
         ensures few { IfOk result (λ rows. length rows.sizes < 2 ^ 32) }
+        ensures domain { self.now.model.now.size < 2 ^ 32 }
         ensures sizes { IfOk result (λ rows. rows.sizes
             ≡ (typed_in (parts_of C.choices self.now)).sizes) }
         ensures each { IfOk result (λ rows. AreRows (parts_of C.choices self.now)
-            self.now.model.now.size rows.picked) }
+            (members_in (parts_of C.choices self.now)) rows.picked) }
     {
         let mut sizes = List::new(alloc);
         let mut picked = List::new(alloc);
-        for member in 0..bound {
+        for member in 0..members {
             let row = self.row(alloc, member, bound)?;
             sizes.push(row.size)?;
             picked.push(row.picked)?;
@@ -35,10 +37,39 @@ impl<C: Choices> Marked<'_, C> {
         Ok(Rows { sizes, picked })
     }
 
+    /// How many elements each of so many members has. None is listed where all numbers are.
+    pub fn sizes(&self, alloc: Global, members: u32, bound: u32) -> Result<List<u32>, NoMemory>
+        requires ready { IsMarked (parts_of C.choices self.now) }
+        requires members { members ≡ members_in (parts_of C.choices self.now) }
+        requires bound { bound ≡ self.now.model.now.size }
+        ensures { IfOk result (λ sizes. sizes ≡ (typed_in (parts_of C.choices self.now)).sizes) }
+    {
+        let mut sizes = List::new(alloc);
+        for member in 0..members {
+            sizes.push(self.size_of(alloc, member, bound)?)?;
+        }
+        Ok(sizes)
+    }
+
+    // how many elements a member has
+    fn size_of(&self, alloc: Global, member: u32, bound: u32) -> Result<u32, NoMemory>
+        requires ready { IsMarked (parts_of C.choices self.now) }
+        requires member { member < members_in (parts_of C.choices self.now) }
+        requires bound { bound ≡ self.now.model.now.size }
+        ensures { IfOk result (λ size. size
+            ≡ count_below bound (picks_in (parts_of C.choices self.now) member)) }
+    {
+        if self.picks_all(member) {
+            return Ok(bound);
+        }
+        let row = self.row(alloc, member, bound)?;
+        Ok(row.size)
+    }
+
     // those of one member, among the numbers of the domain
     fn row(&self, alloc: Global, member: u32, bound: u32) -> Result<Row, NoMemory>
         requires ready { IsMarked (parts_of C.choices self.now) }
-        requires member { member < bound }
+        requires member { member < members_in (parts_of C.choices self.now) }
         requires bound { bound ≡ self.now.model.now.size }
         ensures size { IfOk result (λ row. row.size
             ≡ count_below bound (picks_in (parts_of C.choices self.now) member)) }

@@ -10,10 +10,11 @@ ghost use Rattle.enc_marks.specs.declared.choices.Elements.TheVariants.{Image};
 ghost use Rattle.enc_marks.specs.Applies.{Applies};
 ghost use Rattle.enc_marks.specs.Encoded as encoding;
 ghost use Rattle.enc_marks.specs.Schemes.{choices_of};
-ghost use Rattle.enc_models.specs.KeepsModels.{IsMerged, IsMarkedByType};
+ghost use Rattle.enc_models.specs.KeepsModels.{IsMerged, IsCollapsed, IsMarkedByType};
 ghost use Rattle.enc_models.specs.LiftedTables.{lifted_tables, lifted_entries, IsLiftRefused};
 ghost use Rattle.enc_models.specs.Lowered.{lowered, lowered_entries, IsRefused};
 
+use crate::to_collapsed::lower_collapsed;
 use crate::to_typed::lift;
 use crate::to_untyped::lower;
 use enc_marks::{Choices, Encoded, Refusal};
@@ -50,8 +51,36 @@ pub fn lower_by<C: Choices>(
     lower(alloc, choices, normal, encoded, model)
 }
 
+/// The untyped model that a typed model of a normal problem gives of its translation, for the
+/// choices of a scheme that lowers to the collapsed domain.
+pub fn lower_collapsed_by<C: Choices>(
+    alloc: Global,
+    choices: &C,
+    normal: &Normal,
+    encoded: &Encoded,
+    model: &TypedStructure,
+) -> Result<Structure, Refusal>
+    ghost which: { Scheme }
+    requires choices { C.choices choices.now ≡ choices_of which normal.now }
+    requires collapsed { IsCollapsed which }
+    requires applies { Applies which normal.now }
+    requires sound { IsSoundNormal normal.now }
+    requires encoded { encoded.now ≡ encoding.encoded (choices_of which normal.now) normal.now }
+    requires model { AreNormalModel normal.now (tables model.now) }
+    requires few { length model.now.sizes < 2 ^ 32 }
+    ensures model { IfOk result (AreModel encoded.now.problem) }
+    ensures exact { IfOk result (λ s. s
+        ≡ lowered (choices_of which normal.now) normal.now (tables model.now)) }
+    ensures within { IfOk result (λ s. lowered_entries (choices_of which normal.now) normal.now
+        (tables model.now) ≤ most_entries) }
+    ensures refused { IfErr result
+        (IsRefused (choices_of which normal.now) normal.now (tables model.now)) }
+{
+    lower_collapsed(alloc, choices, normal, encoded, model)
+}
+
 /// The typed model that an untyped model of a translation gives of the normal problem, for the
-/// choices of a scheme whose guard or tag has the type as an argument.
+/// choices of a scheme.
 pub fn lift_by<C: Choices>(
     alloc: Global,
     choices: &C,
@@ -61,7 +90,6 @@ pub fn lift_by<C: Choices>(
 ) -> Result<TypedStructure, Refusal>
     ghost which: { Scheme }
     requires choices { C.choices choices.now ≡ choices_of which normal.now }
-    requires by_type { IsMarkedByType which }
     requires tagged { (C.choices choices.now).elements ≡ Image
         → (C.choices choices.now).binding ≡ ByTag }
     requires applies { Applies which normal.now }

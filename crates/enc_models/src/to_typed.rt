@@ -1,35 +1,31 @@
-ghost use Rattle.std.specs.Prelude.{◌≡◌, ◌≤◌, ◌<◌, ◌^◌, IfOk, IfErr};
-ghost use Rattle.tf_core.specs.Sound.{IsSoundNormal};
+ghost use Rattle.std.specs.Prelude.{◌≡◌, ◌≤◌, IfOk, IfErr, IsTrue};
+ghost use Rattle.tf_core.specs.Sound.{is_monomorphic, IsSoundNormal};
 ghost use Rattle.tf_core.specs.Structures.{IsStructure};
-ghost use Rattle.tf_core.specs.Typing.{IsSignature};
 ghost use Rattle.tf_models.specs.Reading.{tables};
 ghost use Rattle.enc_base.specs.Counts.{most_entries};
 ghost use Rattle.fof_models.specs.Models.{AreModel};
 ghost use Rattle.enc_marks.specs.declared.choices.Binding.TheVariants.{ByTag};
 ghost use Rattle.enc_marks.specs.declared.choices.Elements.TheVariants.{Image};
-ghost use Rattle.enc_marks.specs.declared.choices.Marking.TheVariants.{ByType};
+ghost use Rattle.enc_marks.specs.declared.choices.Marking.TheVariants.{BySort};
 ghost use Rattle.enc_marks.specs.Encoded as encoding;
-ghost use Rattle.enc_models.specs.Calls.Lifting.{parts_of, typed_in, mark_count, IsCounted, IsMarked};
+ghost use Rattle.enc_models.specs.Calls.Lifting.{IsCounted};
 ghost use Rattle.enc_models.specs.LiftedTables.{lifted_structure, lifted_tables, lifted_entries, IsLiftRefused};
 
-use crate::kept::kept_of_symbols;
-use crate::lifting::Lifting;
-use crate::marked::{Marked, places_of_marks};
-use crate::rows::Rows;
+use crate::lifted_sorts::lifted_by_sort;
+use crate::lifted_types::lifted_by_type;
 use enc_base::NoMemory;
-use enc_marks::{Choices, Encoded, Refusal};
+use enc_marks::{Choices, Encoded, Marking, Refusal};
 use fof_models::Structure;
 use std::alloc::Global;
-use structure_tables::{tabulate_typed, typed_entries};
 use tf_core::Normal;
 use tf_models::TypedStructure;
 
 /// The most numbers that the tables of a structure may hold.
-const MOST_ENTRIES: u64 = 67_108_864;
+pub(crate) const MOST_ENTRIES: u64 = 67_108_864;
 
-/// The typed model that an untyped model of a translation gives of the normal problem: for choices
-/// by which the guard or tag has the type as an argument. Its members are the numbers of the
-/// domain.
+/// The typed model that an untyped model of a translation gives of the normal problem. Its members
+/// are the numbers of the domain where the guard or tag has the type as an argument, and else the
+/// sorts.
 ///
 /// Refused where the tables would hold more than 67,108,864 numbers. They are counted first, and
 /// no table is made for a model that is refused.
@@ -40,7 +36,8 @@ pub fn lift<C: Choices>(
     encoded: &Encoded,
     model: &Structure,
 ) -> Result<TypedStructure, Refusal>
-    requires by_type { (C.choices choices.now).marking ≡ ByType }
+    requires monomorphic { (C.choices choices.now).marking ≡ BySort
+        → IsTrue (is_monomorphic normal.now) }
     requires tagged { (C.choices choices.now).elements ≡ Image
         → (C.choices choices.now).binding ≡ ByTag }
     requires sound { IsSoundNormal normal.now }
@@ -76,11 +73,11 @@ fn lifted_or_count<C: Choices>(
     encoded: &Encoded,
     model: &Structure,
 ) -> Result<Lifted, NoMemory>
-    requires by_type { (C.choices choices.now).marking ≡ ByType }
+    requires monomorphic { (C.choices choices.now).marking ≡ BySort
+        → IsTrue (is_monomorphic normal.now) }
     requires tagged { (C.choices choices.now).elements ≡ Image
         → (C.choices choices.now).binding ≡ ByTag }
-    requires typed { IsSignature normal.now.signature }
-    requires few { mark_count normal.now < 2 ^ 32 }
+    requires sound { IsSoundNormal normal.now }
     requires encoded { encoded.now ≡ encoding.encoded (C.choices choices.now) normal.now }
     requires model { AreModel encoded.now.problem model.now }
     requires fits { IsStructure normal.now.signature
@@ -88,37 +85,9 @@ fn lifted_or_count<C: Choices>(
     ensures { IfOk result (IsCounted normal.now.signature
         (lifted_structure (C.choices choices.now) normal.now model.now)) }
 {
-    let places = places_of_marks(alloc, choices, normal, encoded.marks.as_slice())?;
-    let symbols = normal.signature.symbols.as_slice();
-    let kept = kept_of_symbols(alloc, choices.keeps(), symbols)?;
-    let marked = Marked {
-        choices,
-        normal,
-        model,
-        places: places.as_slice(),
-        kept: kept.as_slice(),
-    };
-    tables_or_count(alloc, &marked)
-}
-
-// those of a structure whose tables are found
-fn tables_or_count<C: Choices>(alloc: Global, marked: &Marked<'_, C>) -> Result<Lifted, NoMemory>
-    requires ready { IsMarked (parts_of C.choices marked.now) }
-    requires fits { IsStructure marked.now.normal.now.signature
-        (typed_in (parts_of C.choices marked.now)) }
-    ensures { IfOk result (IsCounted marked.now.normal.now.signature
-        (typed_in (parts_of C.choices marked.now))) }
-{
-    let Rows { sizes, picked } = marked.rows(alloc, marked.model.size)?;
-    let lifting = Lifting {
-        marked,
-        picked: picked.as_slice(),
-    };
-    let signature = &marked.normal.signature;
-    let entries = typed_entries(alloc, signature, sizes.as_slice(), &lifting)?;
-    if entries > MOST_ENTRIES {
-        return Ok(Lifted::TooLarge(entries));
+    let marks = encoded.marks.as_slice();
+    match choices.marking() {
+        Marking::ByType => lifted_by_type(alloc, choices, normal, marks, model),
+        Marking::BySort => lifted_by_sort(alloc, choices, normal, marks, model),
     }
-    let made = tabulate_typed(alloc, signature, sizes, &lifting)?;
-    Ok(Lifted::Made(made))
 }

@@ -10,8 +10,8 @@ use Rattle.enc_models.proofs.marked.places_of_marks.Goals.{then-at-marks+then-nu
 
 pub overflow_cast-at : goal.overflow_cast-at
 overflow_cast-at g c =
-    let inside : c.loop-number.number < mark_count c.args.normal.now =
-    rw (c.as_slice-symbols.ensures, c.as_slice-constructors.ensures) at c.loop-number-test.true in
+    let inside : c.loop-number.number < mark_count (g.C.Choices.choices c.args.choices.now) c.args.normal.now =
+    rw (c.as_slice-symbols.ensures, c.as_slice-constructors.ensures, c.requires.own) at c.loop-number-test.true in
     omega (
       arith,
       c.requires.few,
@@ -26,11 +26,11 @@ loop-number-preserved g c =
     let number = c.loop-number.number in
     let at = c.loop-number.at in
     let so_far = c.loop-number.invariant in
-    let inside : number < mark_count normal =
-    rw (c.as_slice-symbols.ensures, c.as_slice-constructors.ensures) at c.loop-number-test.true in
+    let inside : number < mark_count (g.C.Choices.choices c.args.choices.now) normal =
+    rw (c.as_slice-symbols.ensures, c.as_slice-constructors.ensures, c.requires.own) at c.loop-number-test.true in
     elim c.if-at-marks.branch [
       | then-at-marks+then-number_of-number+in_ok-push w ↦
-          let occurs = occurs_here (g.C.Choices.choices c.args.choices.now) normal c.requires.by_type c.args.marks.now c.requires.marks number at _
+          let occurs = occurs_here (g.C.Choices.choices c.args.choices.now) normal c.args.marks.now c.requires.marks number at _
           w.if-at-marks.true
           (sym (rw (c.as_slice-symbols.ensures, c.as_slice-constructors.ensures) at
           w.number_of.ensures) ∙ w.if-number_of-number.true) in
@@ -47,20 +47,20 @@ loop-number-preserved g c =
                 ∙ ap (λ n. n + 1) so_far.length_is;
             each = λ m within.
                 ap (λ places. get_or places m None) (w.places-is ∙ w.in_ok-push.ensures.ok)
-                ∙ some_more (g.C.Choices.choices c.args.choices.now) normal c.requires.by_type c.loop-number.places number at so_far.length_is so_far.each
+                ∙ some_more (g.C.Choices.choices c.args.choices.now) normal c.loop-number.places number at so_far.length_is so_far.each
                 so_far.at_is occurs m within;
           }
       | else-at-marks+in_ok-push-2 w ↦
           let fails : occurs_in (g.C.Choices.choices c.args.choices.now) normal number ≡ false =
           elim w.else-at-marks.branch [
             | else-at-marks-via-then-at-marks+else-number_of-number v ↦
-                fails_other (g.C.Choices.choices c.args.choices.now) normal c.requires.by_type c.args.marks.now c.requires.marks number at _ inside so_far.at_is
+                fails_other (g.C.Choices.choices c.args.choices.now) normal c.args.marks.now c.requires.marks number at _ inside so_far.at_is
                 v.if-at-marks.true
                 (λ is. v.if-number_of-number.false
                 (rw (c.as_slice-symbols.ensures, c.as_slice-constructors.ensures) at
                 v.number_of.ensures ∙ is))
             | else-at-marks-via-else-at-marks v ↦
-                fails_past (g.C.Choices.choices c.args.choices.now) normal c.requires.by_type c.args.marks.now c.requires.marks number at (mark.Guard) inside
+                fails_past (g.C.Choices.choices c.args.choices.now) normal c.args.marks.now c.requires.marks number at (mark.Guard) inside
                 so_far.at_is v.if-at-marks.false
           ] in
           record {
@@ -76,7 +76,7 @@ loop-number-preserved g c =
                 ∙ ap (λ n. n + 1) so_far.length_is;
             each = λ m within.
                 ap (λ places. get_or places m None) (w.places-is ∙ w.in_ok-push-2.ensures.ok)
-                ∙ none_more (g.C.Choices.choices c.args.choices.now) normal c.requires.by_type c.loop-number.places number at so_far.length_is so_far.each
+                ∙ none_more (g.C.Choices.choices c.args.choices.now) normal c.loop-number.places number at so_far.length_is so_far.each
                 so_far.at_is fails m within;
           }
     ]

@@ -12,17 +12,23 @@ use Rattle.enc_marks.specs.Choices.{Choices}
 use Rattle.enc_laws.proofs.SortSchemes.{models_lifted}
 use Rattle.enc_models.specs.LiftedTables.{lifted_structure, lifted_tables, lifted_entries}
 use Rattle.enc_models.proofs.KeepsModels.{lifts_models}
+use Rattle.enc_models.proofs.SortMarked.{sorts_monomorphic}
 use Rattle.enc_models.proofs.schemes.lift_by.Goals as goal
+
+pub lift-requires-clause-monomorphic : goal.lift-requires-clause-monomorphic
+lift-requires-clause-monomorphic g c by_sort =
+    sorts_monomorphic g.which c.args.normal.now c.requires.1.1.1.0
+    (ap (λ (k : Choices). k.marking) (sym c.requires.1.0) ∙ by_sort)
 
 pub lift-requires-clause-fits : goal.lift-requires-clause-fits
 lift-requires-clause-fits g c =
     let normal : Normal = c.args.normal.now in
     let s : Structure = c.args.model.now in
     let choices_are = c.requires.1.0 in
-    let applies = c.requires.1.1.1.1.0 in
-    let sound = c.requires.1.1.1.1.1.0 in
-    let encoded_is = c.requires.1.1.1.1.1.1.0 in
-    let model = c.requires.1.1.1.1.1.1.1 in
+    let applies = c.requires.1.1.1.0 in
+    let sound = c.requires.1.1.1.1.0 in
+    let encoded_is = c.requires.1.1.1.1.1.0 in
+    let model = c.requires.1.1.1.1.1.1 in
     subst (λ (k : Choices). IsStructure normal.signature (lifted_structure k normal s))
     (sym choices_are)
     (models_lifted.schemes g.which normal s sound applies
@@ -33,10 +39,10 @@ returns-clause-model g c =
     let normal : Normal = c.args.normal.now in
     let s : Structure = c.args.model.now in
     let choices_are = c.requires.1.0 in
-    let applies = c.requires.1.1.1.1.0 in
-    let sound = c.requires.1.1.1.1.1.0 in
-    let encoded_is = c.requires.1.1.1.1.1.1.0 in
-    let model = c.requires.1.1.1.1.1.1.1 in
+    let applies = c.requires.1.1.1.0 in
+    let sound = c.requires.1.1.1.1.0 in
+    let encoded_is = c.requires.1.1.1.1.1.0 in
+    let model = c.requires.1.1.1.1.1.1 in
     IfOk-weaker c.lift.result
     (λ t. tables t ≡ lifted_tables (g.C.Choices.choices c.args.choices.now) normal s)
     (λ t. AreNormalModel normal (tables t))

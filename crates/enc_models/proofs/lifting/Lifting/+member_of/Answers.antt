@@ -7,16 +7,17 @@ use Rattle.tf_core.specs.Structures.{member_of}
 use Rattle.enc_base.proofs.Placing.{get_or-mapped}
 use Rattle.tf_models.proofs.TypeMembers.{type_at}
 use Rattle.structure_tables.proofs.MembersOfTypes.{member_of-variable}
-use Rattle.enc_models.specs.Calls.Lifting.{parts_of, typed_in}
-use Rattle.enc_models.proofs.LiftedValues.{fold-step, fold-fits, fold-placed, members_small, applied_parts, applied_fills, applied_none, applied_inside, applied_is}
+use Rattle.enc_models.specs.Calls.Lifting.{members_in, parts_of, typed_in}
+use Rattle.enc_models.proofs.Folding.{fold-step, fold-fits, fold-placed}
+use Rattle.enc_models.proofs.LiftedValues.{members_small, applied_parts, applied_fills, applied_none, applied_inside, applied_is}
 use Rattle.enc_models.proofs.lifting.Lifting.+member_of.Goals as goal
 
 pub member_of-returns-then-table-eq0 : goal.member_of-returns-then-table-eq0
 member_of-returns-then-table-eq0 g t c =
     applied_none (parts_of g.C.Choices.choices c.args.self.now.marked.now) c.requires.ready.marked c.requires.ready.fits (length c.args.members.now)
     c.args.members.now c.args.ty.now c.in-Apply.c c.in-Apply.types c.in-Apply.is c.requires.typed
-    c.as_slice-symbols.result.now c.as_slice-symbols.ensures c.table-table.result.now
-    c.table-table.ensures c.if-table-eq0.true
+    c.requires.members c.constructor_table-table.result.now
+    c.constructor_table-table.ensures c.if-table-eq0.true
 
 pub member_of-place_of_types-at-requires : goal.member_of-place_of_types-at-requires
 member_of-place_of_types-at-requires g t c = λ κs lives. (
@@ -37,8 +38,8 @@ member_of-place_of_types-at-requires g t c = λ κs lives. (
                 arith,
                 applied_fills (parts_of g.C.Choices.choices c.args.self.now.marked.now) c.requires.ready.marked c.requires.ready.fits
                     (length c.args.members.now) c.args.members.now c.args.ty.now c.in-Apply.c
-                    c.in-Apply.types c.in-Apply.is c.requires.typed c.as_slice-symbols.result.now
-                    c.as_slice-symbols.ensures c.table-table.result.now c.table-table.ensures
+                    c.in-Apply.types c.in-Apply.is c.requires.typed c.requires.members
+                    c.constructor_table-table.result.now c.constructor_table-table.ensures
                     c.if-table-eq0.false,
               )),
         ),
@@ -51,19 +52,19 @@ pub member_of-bounds-table-at : goal.member_of-bounds-table-at
 member_of-bounds-table-at g t c =
     applied_inside (parts_of g.C.Choices.choices c.args.self.now.marked.now) c.requires.ready.marked c.requires.ready.fits (length c.args.members.now)
     c.args.members.now c.args.ty.now c.in-Apply.c c.in-Apply.types c.in-Apply.is c.requires.typed
-    c.as_slice-symbols.result.now c.as_slice-symbols.ensures c.table-table.result.now
-    c.table-table.ensures c.place_of_types-at.result c.if-table-eq0.false
+    c.requires.members c.constructor_table-table.result.now
+    c.constructor_table-table.ensures c.place_of_types-at.result c.if-table-eq0.false
     (rw c.as_slice.ensures at c.place_of_types-at.ensures)
 
 pub member_of-offset_bounds-table-at : goal.member_of-offset_bounds-table-at
 member_of-offset_bounds-table-at g t c =
     omega (
       arith,
-      c.table-table.type_inv,
+      c.constructor_table-table.type_inv,
       applied_inside (parts_of g.C.Choices.choices c.args.self.now.marked.now) c.requires.ready.marked c.requires.ready.fits
           (length c.args.members.now) c.args.members.now c.args.ty.now c.in-Apply.c
-          c.in-Apply.types c.in-Apply.is c.requires.typed c.as_slice-symbols.result.now
-          c.as_slice-symbols.ensures c.table-table.result.now c.table-table.ensures
+          c.in-Apply.types c.in-Apply.is c.requires.typed c.requires.members
+          c.constructor_table-table.result.now c.constructor_table-table.ensures
           c.place_of_types-at.result c.if-table-eq0.false
           (rw c.as_slice.ensures at c.place_of_types-at.ensures),
     )
@@ -77,8 +78,8 @@ pub member_of-returns-else-table-eq0 : goal.member_of-returns-else-table-eq0
 member_of-returns-else-table-eq0 g t c =
     applied_is (parts_of g.C.Choices.choices c.args.self.now.marked.now) c.requires.ready.marked c.requires.ready.fits (length c.args.members.now)
     c.args.members.now c.args.ty.now c.in-Apply.c c.in-Apply.types c.in-Apply.is c.requires.typed
-    c.as_slice-symbols.result.now c.as_slice-symbols.ensures c.table-table.result.now
-    c.table-table.ensures c.place_of_types-at.result
+    c.requires.members c.constructor_table-table.result.now
+    c.constructor_table-table.ensures c.place_of_types-at.result
     (rw c.as_slice.ensures at c.place_of_types-at.ensures)
 
 pub place_of_types-member_of-member-requires : goal.place_of_types-member_of-member-requires
@@ -100,10 +101,11 @@ place_of_types-member_of-member-requires g t c = λ κs lives. (
 
 pub place_of_types-overflow_mul-at : goal.place_of_types-overflow_mul-at
 place_of_types-overflow_mul-at g t c =
-    omega (
+    rw c.requires.ready.rows.picked_count
+    (omega (
       arith,
       c.requires.entries,
-      fold-fits (length c.args.types.now) (parts_of g.C.Choices.choices c.args.self.now.marked.now).model.size _
+      fold-fits (length c.args.types.now) (members_in (parts_of g.C.Choices.choices c.args.self.now.marked.now)) _
           (members_small (parts_of g.C.Choices.choices c.args.self.now.marked.now) c.requires.ready.marked c.requires.ready.fits
           (length c.args.members.now) c.args.members.now c.args.types.now c.requires.typed
           c.requires.members) c.loop-ty.ty-index c.loop-ty.at c.member_of-member.result
@@ -113,14 +115,15 @@ place_of_types-overflow_mul-at g t c =
           (member_of (typed_in (parts_of g.C.Choices.choices c.args.self.now.marked.now)) c.args.members.now) c.args.types.now
           c.loop-ty.ty-index c.ty-item.result c.loop-ty-test.true c.ty-item.is))
           c.loop-ty.invariant,
-    )
+    ))
 
 pub place_of_types-overflow_add-at : goal.place_of_types-overflow_add-at
 place_of_types-overflow_add-at g t c =
-    omega (
+    rw c.requires.ready.rows.picked_count
+    (omega (
       arith,
       c.requires.entries,
-      fold-fits (length c.args.types.now) (parts_of g.C.Choices.choices c.args.self.now.marked.now).model.size _
+      fold-fits (length c.args.types.now) (members_in (parts_of g.C.Choices.choices c.args.self.now.marked.now)) _
           (members_small (parts_of g.C.Choices.choices c.args.self.now.marked.now) c.requires.ready.marked c.requires.ready.fits
           (length c.args.members.now) c.args.members.now c.args.types.now c.requires.typed
           c.requires.members) c.loop-ty.ty-index c.loop-ty.at c.member_of-member.result
@@ -130,11 +133,12 @@ place_of_types-overflow_add-at g t c =
           (member_of (typed_in (parts_of g.C.Choices.choices c.args.self.now.marked.now)) c.args.members.now) c.args.types.now
           c.loop-ty.ty-index c.ty-item.result c.loop-ty-test.true c.ty-item.is))
           c.loop-ty.invariant,
-    )
+    ))
 
 pub place_of_types-loop-ty-preserved : goal.place_of_types-loop-ty-preserved
 place_of_types-loop-ty-preserved g t c =
-    fold-step (length c.args.types.now) (parts_of g.C.Choices.choices c.args.self.now.marked.now).model.size _
+    rw c.requires.ready.rows.picked_count
+    (fold-step (length c.args.types.now) (members_in (parts_of g.C.Choices.choices c.args.self.now.marked.now)) _
     (members_small (parts_of g.C.Choices.choices c.args.self.now.marked.now) c.requires.ready.marked c.requires.ready.fits
     (length c.args.members.now) c.args.members.now c.args.types.now c.requires.typed
     c.requires.members) c.loop-ty.ty-index c.loop-ty.at c.member_of-member.result
@@ -143,11 +147,11 @@ place_of_types-loop-ty-preserved g t c =
     ∙ sym (get_or-mapped
     (member_of (typed_in (parts_of g.C.Choices.choices c.args.self.now.marked.now)) c.args.members.now) c.args.types.now
     c.loop-ty.ty-index c.ty-item.result c.loop-ty-test.true c.ty-item.is))
-    c.loop-ty.invariant
+    c.loop-ty.invariant)
 
 pub place_of_types-returns : goal.place_of_types-returns
 place_of_types-returns g t c =
-    fold-placed (length c.args.types.now) (parts_of g.C.Choices.choices c.args.self.now.marked.now).model.size _
+    fold-placed (length c.args.types.now) (members_in (parts_of g.C.Choices.choices c.args.self.now.marked.now)) _
     (members_small (parts_of g.C.Choices.choices c.args.self.now.marked.now) c.requires.ready.marked c.requires.ready.fits
     (length c.args.members.now) c.args.members.now c.args.types.now c.requires.typed
     c.requires.members) c.loop-ty.ty-index c.loop-ty.at (omega (arith, c.loop-ty-test.false))
@@ -158,14 +162,10 @@ member_of-bounds-members-i g t c =
     variable_parts (parts_of g.C.Choices.choices c.args.self.now.marked.now).normal.signature (length c.args.members.now) c.args.ty.now c.in-Var.i
     c.in-Var.is c.requires.typed
 
-pub member_of-table-table-requires-clause-number :
-    goal.member_of-table-table-requires-clause-number
-member_of-table-table-requires-clause-number g t c =
+pub member_of-constructor_table-table-requires-clause-constructor :
+    goal.member_of-constructor_table-table-requires-clause-constructor
+member_of-constructor_table-table-requires-clause-constructor g t c =
     let parts = applied_parts (parts_of g.C.Choices.choices c.args.self.now.marked.now) c.requires.ready.marked c.requires.ready.fits
     (length c.args.members.now) c.args.members.now c.args.ty.now c.in-Apply.c c.in-Apply.types
     c.in-Apply.is c.requires.typed in
-    omega (
-      arith,
-      ap (λ (xs : List Symbol). length xs) c.as_slice-symbols.ensures,
-      slice_get_within (parts_of g.C.Choices.choices c.args.self.now.marked.now).normal.signature.constructors c.in-Apply.c parts.0 parts.1,
-    )
+    slice_get_within (parts_of g.C.Choices.choices c.args.self.now.marked.now).normal.signature.constructors c.in-Apply.c parts.0 parts.1

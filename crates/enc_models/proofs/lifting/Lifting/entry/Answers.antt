@@ -1,14 +1,12 @@
 use Rattle.std.proofs.Common.{arith}
-use Rattle.tf_models.proofs.Values.{symbol_typed}
-use Rattle.enc_models.proofs.LiftedValues.{symbol_fills, symbol_inside, symbol_is}
+use Rattle.enc_models.proofs.LiftedValues.{symbol_in, symbol_fills, symbol_inside, symbol_is}
 use Rattle.enc_models.specs.Calls.Lifting.{parts_of}
 use Rattle.enc_models.proofs.lifting.Lifting.entry.Goals as goal
 
 pub place_of_arguments-requires-clause-entries : goal.place_of_arguments-requires-clause-entries
 place_of_arguments-requires-clause-entries g c =
     let m = (parts_of g.C.Choices.choices c.args.self.now.marked.now) in
-    let typed = symbol_typed m.normal.signature m.normal.signature.symbols c.args.f
-    c.args.symbol.now c.requires.at c.requires.ready.marked.signature in
+    let typed = symbol_in m c.requires.ready.marked c.args.f c.args.symbol.now c.requires.at in
     omega (
       arith,
       symbol_fills m c.requires.ready.marked c.requires.ready.fits c.args.symbol.now typed c.args.members.now
@@ -19,8 +17,7 @@ place_of_arguments-requires-clause-entries g c =
 pub bounds-table-place_of_arguments : goal.bounds-table-place_of_arguments
 bounds-table-place_of_arguments g c =
     let m = (parts_of g.C.Choices.choices c.args.self.now.marked.now) in
-    let typed = symbol_typed m.normal.signature m.normal.signature.symbols c.args.f
-    c.args.symbol.now c.requires.at c.requires.ready.marked.signature in
+    let typed = symbol_in m c.requires.ready.marked c.args.f c.args.symbol.now c.requires.at in
     symbol_inside m c.requires.ready.marked c.requires.ready.fits c.args.symbol.now typed c.args.members.now
     c.args.elements.now c.requires.arguments c.args.f c.requires.at c.table-table.result.now
     c.table-table.ensures c.place_of_arguments.result c.if-table-eq0.false
@@ -29,8 +26,7 @@ bounds-table-place_of_arguments g c =
 pub offset_bounds-table-place_of_arguments : goal.offset_bounds-table-place_of_arguments
 offset_bounds-table-place_of_arguments g c =
     let m = (parts_of g.C.Choices.choices c.args.self.now.marked.now) in
-    let typed = symbol_typed m.normal.signature m.normal.signature.symbols c.args.f
-    c.args.symbol.now c.requires.at c.requires.ready.marked.signature in
+    let typed = symbol_in m c.requires.ready.marked c.args.f c.args.symbol.now c.requires.at in
     omega (
       arith,
       c.table-table.type_inv,
@@ -43,8 +39,12 @@ offset_bounds-table-place_of_arguments g c =
 pub returns : goal.returns
 returns g c =
     let m = (parts_of g.C.Choices.choices c.args.self.now.marked.now) in
-    let typed = symbol_typed m.normal.signature m.normal.signature.symbols c.args.f
-    c.args.symbol.now c.requires.at c.requires.ready.marked.signature in
+    let typed = symbol_in m c.requires.ready.marked c.args.f c.args.symbol.now c.requires.at in
     symbol_is m c.requires.ready.marked c.requires.ready.fits c.args.symbol.now typed c.args.members.now
     c.args.elements.now c.requires.arguments c.args.f c.requires.at c.table-table.result.now
     c.table-table.ensures c.place_of_arguments.result c.place_of_arguments.ensures
+
+pub place_of_arguments-requires-clause-typed : goal.place_of_arguments-requires-clause-typed
+place_of_arguments-requires-clause-typed g c =
+    symbol_in (parts_of g.C.Choices.choices c.args.self.now.marked.now)
+    c.requires.ready.marked c.args.f c.args.symbol.now c.requires.at

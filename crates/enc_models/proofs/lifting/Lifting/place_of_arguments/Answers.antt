@@ -4,9 +4,10 @@ use Rattle.std.proofs.lemmas.List.Sums.{count_by_more_yes, count_by_more_no}
 use Rattle.enc_base.specs.Tables.{place}
 use Rattle.tf_core.specs.Structures.{member_of}
 use Rattle.enc_laws.specs.MergedStructure.{kept_count}
-use Rattle.enc_models.specs.Calls.Lifting.{parts_of, typed_in, numbers_in, bounds_in}
+use Rattle.enc_models.specs.Calls.Lifting.{parts_of, members_in, typed_in, numbers_in, bounds_in}
 use Rattle.enc_models.proofs.PickedNumbers.{picked_row}
-use Rattle.enc_models.proofs.LiftedValues.{fold-step, fold-fits, fold-placed, each_number, as_many_elements, each_member, argument_typed, argument_member, argument_element, kept_within, kept_place, number_of_member, number_of_element}
+use Rattle.enc_models.proofs.Folding.{fold-step, fold-fits, fold-placed}
+use Rattle.enc_models.proofs.LiftedValues.{each_number, as_many_elements, each_member, argument_typed, argument_member, argument_element, kept_within, kept_place, number_of_member, number_of_element}
 use Rattle.enc_models.proofs.lifting.Lifting.place_of_arguments.Goals as goal
 use Rattle.enc_models.proofs.lifting.Lifting.place_of_arguments.Goals.{then-is_kept, else-is_kept}
 
@@ -178,7 +179,7 @@ bounds-as_slice-elements g c =
     let symbol = c.args.symbol.now in
     let within = rw c.as_slice-ty-items.ensures at c.loop-i-test.true in
     let is = rw c.as_slice-ty-items.ensures at c.ty-item.is in
-    let row = picked_row m m.model.size c.args.self.now.picked.now
+    let row = picked_row m (members_in m) c.args.self.now.picked.now
     c.requires.ready.rows (member_of (typed_in m) c.args.members.now c.ty-item.result)
     (argument_member m c.requires.ready.marked c.requires.ready.fits symbol c.requires.typed c.args.members.now
     c.args.elements.now c.requires.arguments c.loop-i.i c.ty-item.result within is)
@@ -198,7 +199,7 @@ overflow_mul-at-in-loop-i g c =
     let symbol = c.args.symbol.now in
     let within = rw c.as_slice-ty-items.ensures at c.loop-i-test.true in
     let is = rw c.as_slice-ty-items.ensures at c.ty-item.is in
-    let row = picked_row m m.model.size c.args.self.now.picked.now
+    let row = picked_row m (members_in m) c.args.self.now.picked.now
     c.requires.ready.rows (member_of (typed_in m) c.args.members.now c.ty-item.result)
     (argument_member m c.requires.ready.marked c.requires.ready.fits symbol c.requires.typed c.args.members.now
     c.args.elements.now c.requires.arguments c.loop-i.i c.ty-item.result within is)
@@ -228,7 +229,7 @@ overflow_add-at-in-loop-i g c =
     let symbol = c.args.symbol.now in
     let within = rw c.as_slice-ty-items.ensures at c.loop-i-test.true in
     let is = rw c.as_slice-ty-items.ensures at c.ty-item.is in
-    let row = picked_row m m.model.size c.args.self.now.picked.now
+    let row = picked_row m (members_in m) c.args.self.now.picked.now
     c.requires.ready.rows (member_of (typed_in m) c.args.members.now c.ty-item.result)
     (argument_member m c.requires.ready.marked c.requires.ready.fits symbol c.requires.typed c.args.members.now
     c.args.elements.now c.requires.arguments c.loop-i.i c.ty-item.result within is)
@@ -258,7 +259,7 @@ loop-i-preserved g c =
     let symbol = c.args.symbol.now in
     let within = rw c.as_slice-ty-items.ensures at c.loop-i-test.true in
     let is = rw c.as_slice-ty-items.ensures at c.ty-item.is in
-    let row = picked_row m m.model.size c.args.self.now.picked.now
+    let row = picked_row m (members_in m) c.args.self.now.picked.now
     c.requires.ready.rows (member_of (typed_in m) c.args.members.now c.ty-item.result)
     (argument_member m c.requires.ready.marked c.requires.ready.fits symbol c.requires.typed c.args.members.now
     c.args.elements.now c.requires.arguments c.loop-i.i c.ty-item.result within is)

@@ -1,7 +1,7 @@
 use Rattle.std.proofs.Common.{arith, length, replicate}
 use Rattle.enc_base.proofs.Placing.{placed_within}
 use Rattle.enc_models.proofs.LiftedValues.{constructor_members, constructor_fills, constructor_none, constructor_is}
-use Rattle.enc_models.specs.Calls.Lifting.{parts_of}
+use Rattle.enc_models.specs.Calls.Lifting.{parts_of, members_in}
 use Rattle.enc_models.proofs.lifting.LiftingTypedSource.constructor_value.Goals as goal
 
 pub place_of_members-requires-clause-members : goal.place_of_members-requires-clause-members
@@ -19,8 +19,8 @@ place_of_members-requires-clause-entries g c =
     omega (
       arith,
       constructor_fills m c.requires.ready.marked c.requires.ready.fits c.args.constructor c.requires.within.constructor
-          c.requires.within.at c.as_slice-symbols.result.now c.as_slice-symbols.ensures
-          c.table-table.result.now c.table-table.ensures c.args.members.now facts.1 c.if-table-eq0.false,
+          c.requires.within.at c.constructor_table-table.result.now c.constructor_table-table.ensures
+          c.args.members.now facts.2 c.if-table-eq0.false,
     )
 
 pub bounds-table-place_of_members : goal.bounds-table-place_of_members
@@ -31,9 +31,9 @@ bounds-table-place_of_members g c =
     omega (
       arith,
       constructor_fills m c.requires.ready.marked c.requires.ready.fits c.args.constructor c.requires.within.constructor
-          c.requires.within.at c.as_slice-symbols.result.now c.as_slice-symbols.ensures
-          c.table-table.result.now c.table-table.ensures c.args.members.now facts.1 c.if-table-eq0.false,
-      placed_within (replicate (length c.args.members.now) m.model.size) c.args.members.now c.place_of_members.result c.place_of_members.ensures,
+          c.requires.within.at c.constructor_table-table.result.now c.constructor_table-table.ensures
+          c.args.members.now facts.2 c.if-table-eq0.false,
+      placed_within (replicate (length c.args.members.now) (members_in m)) c.args.members.now c.place_of_members.result c.place_of_members.ensures,
     )
 
 pub offset_bounds-table-place_of_members : goal.offset_bounds-table-place_of_members
@@ -43,11 +43,11 @@ offset_bounds-table-place_of_members g c =
     c.args.members.now c.requires.within.below in
     omega (
       arith,
-      c.table-table.type_inv,
+      c.constructor_table-table.type_inv,
       constructor_fills m c.requires.ready.marked c.requires.ready.fits c.args.constructor c.requires.within.constructor
-          c.requires.within.at c.as_slice-symbols.result.now c.as_slice-symbols.ensures
-          c.table-table.result.now c.table-table.ensures c.args.members.now facts.1 c.if-table-eq0.false,
-      placed_within (replicate (length c.args.members.now) m.model.size) c.args.members.now c.place_of_members.result c.place_of_members.ensures,
+          c.requires.within.at c.constructor_table-table.result.now c.constructor_table-table.ensures
+          c.args.members.now facts.2 c.if-table-eq0.false,
+      placed_within (replicate (length c.args.members.now) (members_in m)) c.args.members.now c.place_of_members.result c.place_of_members.ensures,
     )
 
 pub returns-then-table-eq0 : goal.returns-then-table-eq0
@@ -56,8 +56,8 @@ returns-then-table-eq0 g c =
     let facts = constructor_members m c.requires.ready.marked c.requires.ready.fits c.requires.within.constructor.arity
     c.args.members.now c.requires.within.below in
     constructor_none m c.requires.ready.marked c.requires.ready.fits c.args.constructor c.requires.within.constructor
-    c.requires.within.at c.as_slice-symbols.result.now c.as_slice-symbols.ensures
-    c.table-table.result.now c.table-table.ensures c.args.members.now facts.1 c.if-table-eq0.true
+    c.requires.within.at c.constructor_table-table.result.now c.constructor_table-table.ensures
+    c.args.members.now facts.2 c.if-table-eq0.true
 
 pub returns : goal.returns
 returns g c =
@@ -65,5 +65,5 @@ returns g c =
     let facts = constructor_members m c.requires.ready.marked c.requires.ready.fits c.requires.within.constructor.arity
     c.args.members.now c.requires.within.below in
     constructor_is m c.requires.ready.marked c.requires.ready.fits c.args.constructor c.requires.within.constructor
-    c.requires.within.at c.as_slice-symbols.result.now c.as_slice-symbols.ensures
-    c.table-table.result.now c.table-table.ensures c.args.members.now facts.1 c.place_of_members.result c.place_of_members.ensures.place_is
+    c.requires.within.at c.constructor_table-table.result.now c.constructor_table-table.ensures
+    c.args.members.now facts.2 c.place_of_members.result c.place_of_members.ensures.place_is

@@ -1,14 +1,12 @@
 use Rattle.std.proofs.Common.{arith, ◌≤◌, ◌∙◌, ◌<◌, sym, ap, subst, length, get_or, Some}
 use Rattle.tf_core.specs.Typing.{IsType}
 use Rattle.tf_core.specs.Structures.{member_of, AreArguments}
-use Rattle.tf_models.proofs.Values.{symbol_typed}
 use Rattle.enc_marks.specs.Occurrence.{count_below}
 use Rattle.enc_marks.proofs.Ranks.{count_below-le}
-use Rattle.enc_laws.specs.Lifted.{read_as}
 use Rattle.enc_laws.proofs.Selected.{result_formed}
-use Rattle.enc_models.specs.Calls.Lifting.{parts_of, mark_in, typed_in, picks_in}
+use Rattle.enc_models.specs.Calls.Lifting.{parts_of, members_in, lift_in, typed_in, picks_in}
 use Rattle.enc_models.proofs.PickedNumbers.{picked_row}
-use Rattle.enc_models.proofs.LiftedValues.{stated_is, as_many_members, each_member, member_small, entry_small, absent_is, truth_is, rank_is}
+use Rattle.enc_models.proofs.LiftedValues.{symbol_in, stated_is, as_many_members, each_member, member_small, entry_small, absent_is, truth_is, rank_is}
 use Rattle.enc_models.proofs.lifting.LiftingTypedSource.symbol_value.Goals as goal
 
 pub member_of-member-requires-clause-members : goal.member_of-member-requires-clause-members
@@ -21,8 +19,7 @@ member_of-member-requires-clause-members g c =
     let found = c.requires.within.at ∙ ap Some same in
     let are = subst (λ one. AreArguments (typed_in m) one c.args.members.now c.args.elements.now) same
     c.requires.within.arguments in
-    let typed = symbol_typed sig sig.symbols c.args.symbol stated found
-    c.requires.ready.marked.signature in
+    let typed = symbol_in m c.requires.ready.marked c.args.symbol stated found in
     each_member m c.requires.ready.marked c.requires.ready.fits stated typed c.args.members.now c.args.elements.now are
 
 pub member_of-member-requires-clause-typed : goal.member_of-member-requires-clause-typed
@@ -35,8 +32,7 @@ member_of-member-requires-clause-typed g c =
     let found = c.requires.within.at ∙ ap Some same in
     let are = subst (λ one. AreArguments (typed_in m) one c.args.members.now c.args.elements.now) same
     c.requires.within.arguments in
-    let typed = symbol_typed sig sig.symbols c.args.symbol stated found
-    c.requires.ready.marked.signature in
+    let typed = symbol_in m c.requires.ready.marked c.args.symbol stated found in
     let formed : IsType sig (length c.args.members.now) c.in-Some.ty =
     subst (λ n. IsType sig n c.in-Some.ty) (as_many_members m c.requires.ready.marked c.requires.ready.fits stated typed c.args.members.now c.args.elements.now are)
     (result_formed sig c.args.symbol stated c.in-Some.ty c.requires.ready.marked.signature found
@@ -53,16 +49,15 @@ read_in-number-requires-clause-member g c =
     let found = c.requires.within.at ∙ ap Some same in
     let are = subst (λ one. AreArguments (typed_in m) one c.args.members.now c.args.elements.now) same
     c.requires.within.arguments in
-    let typed = symbol_typed sig sig.symbols c.args.symbol stated found
-    c.requires.ready.marked.signature in
+    let typed = symbol_in m c.requires.ready.marked c.args.symbol stated found in
     let formed : IsType sig (length c.args.members.now) c.in-Some.ty =
     subst (λ n. IsType sig n c.in-Some.ty) (as_many_members m c.requires.ready.marked c.requires.ready.fits stated typed c.args.members.now c.args.elements.now are)
     (result_formed sig c.args.symbol stated c.in-Some.ty c.requires.ready.marked.signature found
     c.in-Some.is) in
     let small = member_small m c.requires.ready.marked c.requires.ready.fits (length c.args.members.now) c.args.members.now
     c.in-Some.ty formed (each_member m c.requires.ready.marked c.requires.ready.fits stated typed c.args.members.now c.args.elements.now are) in
-    let member : c.member_of-member.result < m.model.size =
-    subst (λ n. n < m.model.size) (sym c.member_of-member.ensures) small in
+    let member : c.member_of-member.result < members_in m =
+    subst (λ n. n < members_in m) (sym c.member_of-member.ensures) small in
     member
 
 pub read_in-number-requires-clause-number : goal.read_in-number-requires-clause-number
@@ -75,8 +70,7 @@ read_in-number-requires-clause-number g c =
     let found = c.requires.within.at ∙ ap Some same in
     let are = subst (λ one. AreArguments (typed_in m) one c.args.members.now c.args.elements.now) same
     c.requires.within.arguments in
-    let typed = symbol_typed sig sig.symbols c.args.symbol stated found
-    c.requires.ready.marked.signature in
+    let typed = symbol_in m c.requires.ready.marked c.args.symbol stated found in
     let formed : IsType sig (length c.args.members.now) c.in-Some.ty =
     subst (λ n. IsType sig n c.in-Some.ty) (as_many_members m c.requires.ready.marked c.requires.ready.fits stated typed c.args.members.now c.args.elements.now are)
     (result_formed sig c.args.symbol stated c.in-Some.ty c.requires.ready.marked.signature found
@@ -98,8 +92,7 @@ bounds-self-member g c =
     let found = c.requires.within.at ∙ ap Some same in
     let are = subst (λ one. AreArguments (typed_in m) one c.args.members.now c.args.elements.now) same
     c.requires.within.arguments in
-    let typed = symbol_typed sig sig.symbols c.args.symbol stated found
-    c.requires.ready.marked.signature in
+    let typed = symbol_in m c.requires.ready.marked c.args.symbol stated found in
     let formed : IsType sig (length c.args.members.now) c.in-Some.ty =
     subst (λ n. IsType sig n c.in-Some.ty) (as_many_members m c.requires.ready.marked c.requires.ready.fits stated typed c.args.members.now c.args.elements.now are)
     (result_formed sig c.args.symbol stated c.in-Some.ty c.requires.ready.marked.signature found
@@ -118,15 +111,14 @@ rank_of-requires g c =
     let found = c.requires.within.at ∙ ap Some same in
     let are = subst (λ one. AreArguments (typed_in m) one c.args.members.now c.args.elements.now) same
     c.requires.within.arguments in
-    let typed = symbol_typed sig sig.symbols c.args.symbol stated found
-    c.requires.ready.marked.signature in
+    let typed = symbol_in m c.requires.ready.marked c.args.symbol stated found in
     let formed : IsType sig (length c.args.members.now) c.in-Some.ty =
     subst (λ n. IsType sig n c.in-Some.ty) (as_many_members m c.requires.ready.marked c.requires.ready.fits stated typed c.args.members.now c.args.elements.now are)
     (result_formed sig c.args.symbol stated c.in-Some.ty c.requires.ready.marked.signature found
     c.in-Some.is) in
     let small = member_small m c.requires.ready.marked c.requires.ready.fits (length c.args.members.now) c.args.members.now
     c.in-Some.ty formed (each_member m c.requires.ready.marked c.requires.ready.fits stated typed c.args.members.now c.args.elements.now are) in
-    let row = picked_row m m.model.size c.args.self.now.picked.now c.requires.ready.rows
+    let row = picked_row m (members_in m) c.args.self.now.picked.now c.requires.ready.rows
     (member_of (typed_in m) c.args.members.now c.in-Some.ty) small c.as_slice-in-Some.result.now _
     (c.as_slice-in-Some.ensures
     ∙ ap (λ k. get_or c.args.self.now.picked.now k c.index-self-member.result)
@@ -150,15 +142,14 @@ returns-in-Some g c =
     let found = c.requires.within.at ∙ ap Some same in
     let are = subst (λ one. AreArguments (typed_in m) one c.args.members.now c.args.elements.now) same
     c.requires.within.arguments in
-    let typed = symbol_typed sig sig.symbols c.args.symbol stated found
-    c.requires.ready.marked.signature in
+    let typed = symbol_in m c.requires.ready.marked c.args.symbol stated found in
     let formed : IsType sig (length c.args.members.now) c.in-Some.ty =
     subst (λ n. IsType sig n c.in-Some.ty) (as_many_members m c.requires.ready.marked c.requires.ready.fits stated typed c.args.members.now c.args.elements.now are)
     (result_formed sig c.args.symbol stated c.in-Some.ty c.requires.ready.marked.signature found
     c.in-Some.is) in
     let small = member_small m c.requires.ready.marked c.requires.ready.fits (length c.args.members.now) c.args.members.now
     c.in-Some.ty formed (each_member m c.requires.ready.marked c.requires.ready.fits stated typed c.args.members.now c.args.elements.now are) in
-    let row = picked_row m m.model.size c.args.self.now.picked.now c.requires.ready.rows
+    let row = picked_row m (members_in m) c.args.self.now.picked.now c.requires.ready.rows
     (member_of (typed_in m) c.args.members.now c.in-Some.ty) small c.as_slice-in-Some.result.now _
     (c.as_slice-in-Some.ensures
     ∙ ap (λ k. get_or c.args.self.now.picked.now k c.index-self-member.result)
@@ -168,9 +159,9 @@ returns-in-Some g c =
     m.model.size row inside
     ∙ ap (λ v. count_below v (picks_in m (member_of (typed_in m) c.args.members.now c.in-Some.ty)))
     (c.read_in-number.ensures.exact
-    ∙ ap (λ u. read_as m.choices.elements (mark_in m u) c.entry-entry.result) c.member_of-member.ensures
-    ∙ ap (read_as m.choices.elements
-    (mark_in m (member_of (typed_in m) c.args.members.now c.in-Some.ty))) c.entry-entry.ensures)
+    ∙ ap (λ u. (lift_in m).into u c.entry-entry.result) c.member_of-member.ensures
+    ∙ ap ((lift_in m).into (member_of (typed_in m) c.args.members.now c.in-Some.ty))
+    c.entry-entry.ensures)
     ∙ rank_is m c.requires.ready.marked c.requires.ready.fits stated typed c.args.members.now c.args.elements.now are c.args.symbol found c.table-table.result.now c.table-table.ensures c.if-table-eq0.false c.in-Some.ty c.in-Some.is
 
 pub returns-in-None : goal.returns-in-None
@@ -183,8 +174,7 @@ returns-in-None g c =
     let found = c.requires.within.at ∙ ap Some same in
     let are = subst (λ one. AreArguments (typed_in m) one c.args.members.now c.args.elements.now) same
     c.requires.within.arguments in
-    let typed = symbol_typed sig sig.symbols c.args.symbol stated found
-    c.requires.ready.marked.signature in
+    let typed = symbol_in m c.requires.ready.marked c.args.symbol stated found in
     c.entry-entry.ensures
     ∙ truth_is m c.requires.ready.marked c.requires.ready.fits stated typed c.args.members.now c.args.elements.now are c.args.symbol found c.table-table.result.now c.table-table.ensures c.if-table-eq0.false c.in-None.is
 
@@ -198,6 +188,5 @@ returns-then-table-eq0 g c =
     let found = c.requires.within.at ∙ ap Some same in
     let are = subst (λ one. AreArguments (typed_in m) one c.args.members.now c.args.elements.now) same
     c.requires.within.arguments in
-    let typed = symbol_typed sig sig.symbols c.args.symbol stated found
-    c.requires.ready.marked.signature in
+    let typed = symbol_in m c.requires.ready.marked c.args.symbol stated found in
     absent_is m c.requires.ready.marked c.requires.ready.fits stated typed c.args.members.now c.args.elements.now are c.args.symbol found c.table-table.result.now c.table-table.ensures c.if-table-eq0.true

@@ -2,7 +2,7 @@ use Rattle.std.proofs.Common.{arith, ℕ, ap, sym, ◌∙◌, ◌≡◌, ◌++�
 use Rattle.enc_marks.specs.Occurrence.{count_below}
 use Rattle.enc_laws.specs.Ranks.{listed}
 use Rattle.enc_laws.proofs.Ranked.{length-listed}
-use Rattle.enc_models.specs.Calls.Lifting.{parts_of, picks_in, AreRows}
+use Rattle.enc_models.specs.Calls.Lifting.{parts_of, members_in, picks_in, AreRows}
 use Rattle.enc_models.proofs.PickedNumbers.{listed-more, more_rows}
 use Rattle.enc_models.proofs.marked.Marked.rows.Goals as goal
 
@@ -28,26 +28,25 @@ loop-member-preserved g c =
 
 pub returns : goal.returns
 returns g c =
-    let size = c.args.self.now.model.now.size in
-    let all : c.loop-member.member ≡ size =
+    let m = parts_of g.C.Choices.choices c.args.self.now in
+    let sizes : ℕ → ℕ = λ n. count_below m.model.size (picks_in m n) in
+    let all : c.loop-member.member ≡ members_in m =
     omega (
       arith,
-      c.requires.bound,
+      c.requires.members,
       c.loop-member.auto.member-end,
       c.loop-member-test.false,
     ) in
-    let whole = c.loop-member.invariant.sizes
-    ∙ ap (λ n. listed n 0 (λ m. count_below size (picks_in (parts_of g.C.Choices.choices c.args.self.now) m))) all in
+    let whole = c.loop-member.invariant.sizes ∙ ap (λ n. listed n 0 sizes) all in
     record {
       few = omega (
         arith,
-        c.ranges.bound.fits,
-        c.requires.bound,
+        c.ranges.members.fits,
+        c.requires.members,
         ap length whole,
-        length-listed size 0 (λ m. count_below size (picks_in (parts_of g.C.Choices.choices c.args.self.now) m)),
+        length-listed (members_in m) 0 sizes,
       );
+      domain = omega (arith, c.ranges.bound.fits, c.requires.bound);
       sizes = whole;
-      each =
-          subst (λ n. AreRows (parts_of g.C.Choices.choices c.args.self.now) n c.loop-member.picked) all
-          c.loop-member.invariant.each;
+      each = subst (λ n. AreRows m n c.loop-member.picked) all c.loop-member.invariant.each;
     }

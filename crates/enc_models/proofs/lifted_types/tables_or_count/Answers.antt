@@ -1,7 +1,11 @@
-use Rattle.std.proofs.Common.{arith, ap, length}
 use Rattle.enc_models.specs.Calls.Lifting.{parts_of}
-use Rattle.enc_models.proofs.LiftedValues.{count_is}
-use Rattle.enc_models.proofs.to_typed.tables_or_count.Goals as goal
+use Rattle.enc_models.proofs.OwnMarks.{members-by_type, not_by_sort}
+use Rattle.std.proofs.Common.{sym}
+use Rattle.enc_models.proofs.lifted_types.tables_or_count.Goals as goal
+
+pub rows-requires-clause-members : goal.rows-requires-clause-members
+rows-requires-clause-members g c =
+    sym (members-by_type (parts_of g.C.Choices.choices c.args.marked.now) c.requires.by_type)
 
 pub typed_entries-requires-clause-sized : goal.typed_entries-requires-clause-sized
 typed_entries-requires-clause-sized g c =
@@ -25,13 +29,9 @@ typed_entries-requires-clause-ready g c =
     record {
       marked = c.requires.ready;
       fits = c.requires.fits;
-      domain = omega (
-        arith,
-        c.in_ok-sizes.ensures.few,
-        ap length c.in_ok-sizes.ensures.sizes,
-        count_is (parts_of g.C.Choices.choices c.args.marked.now) c.requires.ready c.requires.fits,
-      );
+      domain = c.rows.ensures.domain;
       rows = rw c.as_slice.ensures c.in_ok-sizes.ensures.each;
+      formed = λ by_sort. absurd (not_by_sort _ c.requires.by_type by_sort);
     }
 
 pub tabulate_typed-requires-clause-ready : goal.tabulate_typed-requires-clause-ready
@@ -39,11 +39,7 @@ tabulate_typed-requires-clause-ready g c =
     record {
       marked = c.requires.ready;
       fits = c.requires.fits;
-      domain = omega (
-        arith,
-        c.in_ok-sizes.ensures.few,
-        ap length c.in_ok-sizes.ensures.sizes,
-        count_is (parts_of g.C.Choices.choices c.args.marked.now) c.requires.ready c.requires.fits,
-      );
+      domain = c.rows.ensures.domain;
       rows = rw c.as_slice.ensures c.in_ok-sizes.ensures.each;
+      formed = λ by_sort. absurd (not_by_sort _ c.requires.by_type by_sort);
     }
