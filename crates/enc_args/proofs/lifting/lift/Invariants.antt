@@ -1,0 +1,5 @@
+use Rattle.enc_marks.specs.declared.scheme.Scheme.TheVariants.{Args}
+use Rattle.enc_args.proofs.lifting.lift.Given as goal
+
+abbrev pub ghost-lift_by : goal.ghost-lift_by
+ghost-lift_by a = Args
