@@ -1,0 +1,5 @@
+pub mod Numbered
+pub mod Known
+pub mod Matched
+pub mod Searched
+pub mod Admitted

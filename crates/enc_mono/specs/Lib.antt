@@ -1,0 +1,14 @@
+pub mod Instances
+pub mod Origins
+pub mod Rounds
+pub mod TypeOrder
+pub mod Monomorphised
+pub mod MoreInstances
+pub mod Counts
+pub mod Restricted
+pub mod Blocks
+pub mod Refusals
+pub mod RefusalNumbers
+pub mod Laws
+pub mod Rows
+pub mod Calls
