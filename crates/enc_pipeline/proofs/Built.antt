@@ -1,36 +1,29 @@
 -- The schemes that are built.
 use Rattle.std.proofs.Common.{◌≡◌, ◌≤◌, true, sym, ap, subst, arith}
-use Rattle.tf_core.specs.declared.normal.Normal.{Normal}
 use Rattle.enc_marks.specs.declared.scheme.Scheme.{Scheme}
 use Rattle.enc_marks.specs.declared.scheme.Scheme.TheVariants as scheme
-use Rattle.enc_marks.specs.Applies.{Applies}
 use Rattle.enc_models.specs.KeepsModels.{KeepsModels}
 use Rattle.enc_models.proofs.KeepsModels.{guards_keep, tags_keep, guards_cover_keep, tags_cover_keep}
+use Rattle.enc_args.proofs.Models.{args_keep}
 use Rattle.enc_pipeline.specs.declared.how.How.{How}
 use Rattle.enc_pipeline.specs.Way.{is_built, plain_way, IsBuilt, IsInRange}
 
 -- what holds of each scheme that is built holds of this one
 pub each_built : (P : Scheme → Type 0) → P scheme.Guards → P scheme.Tags → P scheme.GuardsCover
-    → P scheme.TagsCover → (which : Scheme) → is_built which ≡ true → P which
-each_built P guards tags guards_cover tags_cover scheme.Guards built = guards
-each_built P guards tags guards_cover tags_cover scheme.Tags built = tags
-each_built P guards tags guards_cover tags_cover scheme.GuardsCover built = guards_cover
-each_built P guards tags guards_cover tags_cover scheme.TagsCover built = tags_cover
-each_built P guards tags guards_cover tags_cover scheme.Args built = absurd cc
-each_built P guards tags guards_cover tags_cover scheme.Erase built = absurd cc
-each_built P guards tags guards_cover tags_cover scheme.GuardsLight built = absurd cc
-each_built P guards tags guards_cover tags_cover scheme.TagsLight built = absurd cc
+    → P scheme.TagsCover → P scheme.Args → (which : Scheme) → is_built which ≡ true → P which
+each_built P guards tags guards_cover tags_cover args scheme.Guards built = guards
+each_built P guards tags guards_cover tags_cover args scheme.Tags built = tags
+each_built P guards tags guards_cover tags_cover args scheme.GuardsCover built = guards_cover
+each_built P guards tags guards_cover tags_cover args scheme.TagsCover built = tags_cover
+each_built P guards tags guards_cover tags_cover args scheme.Args built = args
+each_built P guards tags guards_cover tags_cover args scheme.Erase built = absurd cc
+each_built P guards tags guards_cover tags_cover args scheme.GuardsLight built = absurd cc
+each_built P guards tags guards_cover tags_cover args scheme.TagsLight built = absurd cc
 
 -- each keeps models
 pub built_keeps : (which : Scheme) → is_built which ≡ true → KeepsModels which
-built_keeps = each_built KeepsModels guards_keep tags_keep guards_cover_keep tags_cover_keep
-
--- each applies to every problem
-pub built_applies : (which : Scheme) → is_built which ≡ true → (normal : Normal)
-    → Applies which normal
-built_applies =
-    each_built (λ which. (normal : Normal) → Applies which normal) (λ normal. tt) (λ normal. tt)
-    (λ normal. tt) (λ normal. tt)
+built_keeps =
+    each_built KeepsModels guards_keep tags_keep guards_cover_keep tags_cover_keep args_keep
 
 -- ---- plain ways
 

@@ -1,4 +1,4 @@
--- The headline of problems that are encoded by a scheme that is built.
+-- The headline of problems that are encoded by a scheme that is built and applies to them.
 use Rattle.std.proofs.Common.{◌≡◌, ◌≤◌, true}
 use Rattle.std.specs.Prelude.{◌↔◌}
 use Rattle.tf_check.specs.Writable.{HasWritableNames}
@@ -20,18 +20,15 @@ use Rattle.enc_models.proofs.KeepsModels.{finite_models_kept}
 use Rattle.enc_pipeline.specs.Output.{output_of, translated}
 use Rattle.enc_pipeline.specs.Causes.{nodes_of}
 use Rattle.enc_pipeline.specs.Way.{is_built}
-use Rattle.enc_pipeline.proofs.Built.{built_keeps, built_applies}
+use Rattle.enc_pipeline.proofs.Built.{built_keeps}
 use Rattle.enc_pipeline.proofs.EncodedNames.{translation_named}
 use Rattle.enc_pipeline.proofs.Headline.{text_and_problem}
 
 module _ (which : Scheme) (built : is_built which ≡ true) (problem : Problem)
     (sound : IsSound problem) (writable : HasWritableNames problem)
-    (within : nodes_of problem ≤ most_nodes) where
+    (within : nodes_of problem ≤ most_nodes) (applies : Applies which (normal_of problem)) where
   sound_normal : IsSoundNormal (normal_of problem)
   sound_normal = normal_sound problem sound within
-
-  applies : Applies which (normal_of problem)
-  applies = built_applies which built (normal_of problem)
 
   -- the translation is well formed
   pub encoded_sound : untyped.IsSound (translated which problem).problem

@@ -4,6 +4,7 @@ pub mod DistinctNames
 pub mod EncodedNames
 pub mod Encoded
 pub mod Ready
+pub mod Applied
 pub mod Stops
 pub mod Carry
 pub mod FirstOnes

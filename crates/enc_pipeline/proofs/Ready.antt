@@ -18,6 +18,7 @@ use Rattle.fof_text.specs.Written.{text_of}
 use Rattle.model_tables.specs.Writable.{IsNamed, AreNames}
 use Rattle.enc_marks.specs.declared.scheme.Scheme.{Scheme}
 use Rattle.enc_marks.specs.declared.encoded.Encoded.{Encoded}
+use Rattle.enc_marks.specs.Applies.{Applies}
 use Rattle.enc_pipeline.specs.declared.how.How.{How}
 use Rattle.enc_pipeline.specs.Way.{Preparation}
 use Rattle.enc_pipeline.specs.Ready.{IsPrepared, IsReady}
@@ -32,12 +33,12 @@ module _ (p : Preparation) (prepared : IsPrepared p) where
   pub sound_translation : untyped.IsSound (translation p)
   sound_translation =
       encoded_sound p.how.scheme prepared.built p.problem prepared.sound prepared.named
-      prepared.within
+      prepared.within prepared.applies
 
   pub translation_is_named : AreNamed (names p) (translation p)
   translation_is_named =
       encoded_named p.how.scheme prepared.built p.problem prepared.sound prepared.named
-      prepared.within
+      prepared.within prepared.applies
 
   -- the names with which tables of the translation are written and read
   pub are_names : AreNames (translation p).signature (names p)
@@ -64,7 +65,14 @@ module _ (p : Preparation) (prepared : IsPrepared p) where
   pub headline : TextHasFiniteModel (output p) ↔ HasFiniteModel p.problem
   headline =
       encoded_headline p.how.scheme prepared.built p.problem prepared.sound prepared.named
-      prepared.within
+      prepared.within prepared.applies
+
+-- the scheme applies to the normal problem, as calls give the two
+pub applies_to_parts : (p : Preparation) (which : Scheme) (n : Normal) → IsPrepared p →
+    which ≡ p.how.scheme → n ≡ written_normal p → Applies which n
+applies_to_parts p which n prepared scheme_is normal_is =
+    subst (λ (w : Scheme). Applies w n) (sym scheme_is)
+    (subst (Applies p.how.scheme) (sym normal_is) prepared.applies)
 
 -- the translation and the names, as a call gives them
 module _ (p : Preparation) (made : Encoded) (ns : List (List ℕ))

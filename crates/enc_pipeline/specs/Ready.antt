@@ -9,6 +9,7 @@ use Rattle.tf_nnf.specs.NormalForm.{normal_of}
 use Rattle.tf_nnf.specs.Refusal.{most_nodes}
 use Rattle.fof_text.specs.Names.{chosen_names}
 use Rattle.enc_marks.specs.declared.encoded.Encoded.{Encoded}
+use Rattle.enc_marks.specs.Applies.{Applies}
 use Rattle.enc_pipeline.specs.declared.how.How.{How}
 use Rattle.enc_pipeline.specs.Way.{Preparation, is_built}
 use Rattle.enc_pipeline.specs.Output.{translated}
@@ -16,13 +17,14 @@ use Rattle.enc_pipeline.specs.Causes.{nodes_of}
 use Rattle.enc_pipeline.specs.Distinct.{HasDistinctNames}
 
 -- The problem can be encoded: it is sound, its names can be written and tell its symbols apart, and
--- its normal problem is within the limit. The scheme is built.
+-- its normal problem is within the limit. The scheme is built, and applies to that.
 pub record IsPrepared (p : Preparation) : Type 0 where
   pub sound : IsSound p.problem
   pub named : HasWritableNames p.problem
   pub distinct : HasDistinctNames p.problem
   pub within : nodes_of p.problem ≤ most_nodes
   pub built : is_built p.how.scheme ≡ true
+  pub applies : Applies p.how.scheme (normal_of p.problem)
 
 pub record IsReady (problem : Problem) (how : How) (normal : Normal) (made : Encoded)
     (names : List (List ℕ)) : Type 0 where

@@ -2,7 +2,7 @@
 use Rattle.std.specs.Prelude.{◌≤◌, ◌≡◌, Bool, true, false}
 use Rattle.tf_core.specs.declared.problem.Problem.{Problem}
 use Rattle.enc_marks.specs.declared.scheme.Scheme.{Scheme}
-use Rattle.enc_marks.specs.declared.scheme.Scheme.TheVariants.{Guards, Tags, GuardsCover, TagsCover}
+use Rattle.enc_marks.specs.declared.scheme.Scheme.TheVariants.{Guards, Tags, GuardsCover, TagsCover, Args}
 use Rattle.enc_pipeline.specs.declared.how.How.{How}
 
 -- what a prepared problem is seen as: the rest of it is determined by these two
@@ -20,12 +20,13 @@ pub record IsInRange (how : How) : Type 0 where
 abbrev pub plain_way : Scheme → How
 plain_way which = record { scheme = which; mono = false; rounds = 3; cap = 2000 }
 
--- whether a scheme is built: `guards`, `tags` and the cover schemes are
+-- whether a scheme is built: `guards`, `tags`, the cover schemes and `args` are
 abbrev pub is_built : Scheme → Bool
 is_built Guards = true
 is_built Tags = true
 is_built GuardsCover = true
 is_built TagsCover = true
+is_built Args = true
 is_built _ = false
 
 -- the ways that are built: by a scheme that is, without instances

@@ -91,6 +91,7 @@ pub fn check_file<O: Sink>(
     ensures exact { OnOk result (Appends (O.bytes out.old) (O.bytes out.new) model_line) }
     ensures model { OnOk result
         ((model : TypedStructure) × IsTableOfModel table.now problem.now model) }
+    ensures kept_faults { OnOk result (O.faults out.new ≡ O.faults out.old) }
     ensures stopped { IfErr result (IsStopped (IsNoModel problem.now table.now)
         (IsCheckedTo problem.now table.now)
         (O.bytes out.old) (O.bytes out.new)

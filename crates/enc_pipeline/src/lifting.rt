@@ -103,6 +103,7 @@ pub fn lift_file<O: Sink>(
 ) -> Result<(), Fault>
     ensures exact { OnOk result ((output : List ℕ) × IsLiftedTo prepared.now table.now output
         × Appends (O.bytes out.old) (O.bytes out.new) output) }
+    ensures kept_faults { OnOk result (O.faults out.new ≡ O.faults out.old) }
     ensures stopped { IfErr result (IsStopped (IsUnlifted prepared.now table.now)
         (IsLiftedTo prepared.now table.now)
         (O.bytes out.old) (O.bytes out.new)

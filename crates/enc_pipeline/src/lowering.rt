@@ -83,6 +83,7 @@ pub fn lower_file<O: Sink>(
 ) -> Result<(), Fault>
     ensures exact { OnOk result ((output : List ℕ) × IsLoweredTo prepared.now table.now output
         × Appends (O.bytes out.old) (O.bytes out.new) output) }
+    ensures kept_faults { OnOk result (O.faults out.new ≡ O.faults out.old) }
     ensures stopped { IfErr result (IsStopped (IsUnlowered prepared.now table.now)
         (IsLoweredTo prepared.now table.now)
         (O.bytes out.old) (O.bytes out.new)

@@ -52,6 +52,7 @@ pub fn write_output<O: Sink>(
         (specs.first_line which.now ++ text_of names.now problem.now)) }
     ensures within { OnErr result (AppendsPrefix (O.bytes out.old) (O.bytes out.new)
         (specs.first_line which.now ++ text_of names.now problem.now)) }
+    ensures kept_faults { OnOk result (O.faults out.new ≡ O.faults out.old) }
     ensures cause { OnErr result (Rose (O.faults out.old) (O.faults out.new)) }
 {
     let mut pending = Pending::new();

@@ -153,6 +153,7 @@ pub fn encode_file<O: Sink>(prepared: &Prepared, out: &mut O) -> Result<(), Faul
         ↔ HasFiniteModel prepared.now.problem }
     ensures within { OnErr result
         (AppendsPrefix (O.bytes out.old) (O.bytes out.new) (specs.output prepared.now)) }
+    ensures kept_faults { OnOk result (O.faults out.new ≡ O.faults out.old) }
     ensures cause { IfErr result (λ fault.
         (fault ≡ Fault.Write) × Rose (O.faults out.old) (O.faults out.new)) }
 {

@@ -29,6 +29,7 @@ pub fn is_built(which: &Scheme) -> bool
         Scheme::Tags => true,
         Scheme::GuardsCover => true,
         Scheme::TagsCover => true,
+        Scheme::Args => true,
         _ => false,
     }
 }
@@ -47,6 +48,7 @@ pub(crate) fn encode(alloc: Global, which: &Scheme, normal: &Normal) -> Result<E
         Scheme::Tags => enc_tags::encode(alloc, Scheme::Tags, normal),
         Scheme::GuardsCover => enc_cover::encode(alloc, Scheme::GuardsCover, normal),
         Scheme::TagsCover => enc_cover::encode(alloc, Scheme::TagsCover, normal),
+        Scheme::Args => enc_args::encode(alloc, Scheme::Args, normal),
         _ => unreachable!(),
     }
 }
@@ -60,6 +62,7 @@ pub(crate) fn lower(
     model: &TypedStructure,
 ) -> Result<Structure, Refusal>
     requires built { way.is_built which.now ≡ true }
+    requires applies { Applies which.now normal.now }
     requires sound { IsSoundNormal normal.now }
     requires encoded { encoded.now ≡ encoding.encoded (choices_of which.now normal.now) normal.now }
     requires model { AreNormalModel normal.now (tables model.now) }
@@ -78,6 +81,7 @@ pub(crate) fn lower(
         Scheme::Tags => enc_tags::lower(alloc, Scheme::Tags, normal, encoded, model),
         Scheme::GuardsCover => enc_cover::lower(alloc, Scheme::GuardsCover, normal, encoded, model),
         Scheme::TagsCover => enc_cover::lower(alloc, Scheme::TagsCover, normal, encoded, model),
+        Scheme::Args => enc_args::lower(alloc, Scheme::Args, normal, encoded, model),
         _ => unreachable!(),
     }
 }
@@ -91,6 +95,7 @@ pub(crate) fn lift(
     model: &Structure,
 ) -> Result<TypedStructure, Refusal>
     requires built { way.is_built which.now ≡ true }
+    requires applies { Applies which.now normal.now }
     requires sound { IsSoundNormal normal.now }
     requires encoded { encoded.now ≡ encoding.encoded (choices_of which.now normal.now) normal.now }
     requires model { AreModel encoded.now.problem model.now }
@@ -107,6 +112,7 @@ pub(crate) fn lift(
         Scheme::Tags => enc_tags::lift(alloc, Scheme::Tags, normal, encoded, model),
         Scheme::GuardsCover => enc_cover::lift(alloc, Scheme::GuardsCover, normal, encoded, model),
         Scheme::TagsCover => enc_cover::lift(alloc, Scheme::TagsCover, normal, encoded, model),
+        Scheme::Args => enc_args::lift(alloc, Scheme::Args, normal, encoded, model),
         _ => unreachable!(),
     }
 }

@@ -1,6 +1,8 @@
 -- A job leads to one thing alone: it is refused for one reason, the task isn't built for its problem,
 -- or it has an output.
-use Rattle.std.proofs.Common.{◌≡◌, ◌<◌, ◌≤◌, ◌∙◌, ℕ, true, List, [], ◌∷◌, Ok, Err, refl, sym, ap, subst, arith}
+use Rattle.std.specs.Prelude.{IfSome, IsSomeAnd}
+use Rattle.std.proofs.Common.{◌≡◌, ◌<◌, ◌≤◌, ◌∙◌, ◌⊎◌, inl, inr, ℕ, true, List, [], ◌∷◌, Option, Some, None, Ok, Err, refl, sym, ap, subst, arith}
+use Rattle.std.proofs.lemmas.Option.{same_Some}
 use Rattle.enc_base.specs.Counts.{in_64_bits}
 use Rattle.tptp_syntax.specs.declared.entry.File.{File}
 use Rattle.tptp_syntax.specs.declared.error.ReadError.{ReadError}
@@ -11,13 +13,18 @@ use Rattle.tf_check.specs.Typing.{IsTyped}
 use Rattle.tf_check.proofs.FileGives.{typed-faults, typed-problem_of}
 use Rattle.tptp_syntax.proofs.Verdicts.{one_verdict}
 use Rattle.tf_core.specs.declared.problem.Problem.{Problem}
+use Rattle.tf_nnf.specs.NormalForm.{normal_of}
 use Rattle.tf_nnf.specs.Refusal.{most_nodes}
+use Rattle.enc_marks.specs.declared.refusal.Refusal.{Refusal}
+use Rattle.enc_marks.specs.declared.scheme.Scheme.{Scheme}
 use Rattle.enc_pipeline.specs.declared.fault.Fault.{Fault}
 use Rattle.enc_pipeline.specs.declared.fault.Fault.TheVariants as fault
 use Rattle.enc_pipeline.specs.Reading.{HasProblem}
 use Rattle.enc_pipeline.specs.Causes.{IsFirstFault, IsUnreadable, nodes_of}
-use Rattle.enc_run.specs.Leads.{Lead, LeadsTo, IsTooLarge, IsRefusedBy, IsTableRefusedBy, IsUnbuilt, IsAcceptable, IsOutputOf, is_taken, is_normalised}
+use Rattle.enc_pipeline.proofs.Applied.{one_scheme_refusal}
+use Rattle.enc_run.specs.Leads.{Lead, LeadsTo, RefusesProblem, IsRefusedBy, IsTableRefusedBy, IsUnbuilt, IsAccepted, IsAcceptable, IsOutputOf, is_taken, is_normalised, task_scheme, IsApplied, RefusesBy}
 use Rattle.enc_run.specs.declared.job.Task.{Task}
+use Rattle.enc_run.proofs.Leads.{takes_each}
 use Rattle.enc_run.proofs.TableLaws.{one_refusal, not_both}
 
 -- ---- a text leads to one thing
@@ -113,6 +120,12 @@ module _ (text : List ℕ) where
   one_lead (Err a) (Ok b) is_a is_b = absurd (readable b a is_b is_a)
   one_lead (Err a) (Err b) is_a is_b = ap Err (one_reason a b is_a is_b)
 
+-- what holds of an item that is there
+there : {A : Type 0} (found : Option A) (P : A → Type 0) → IsSomeAnd found P
+    → (item : A) × (found ≡ Some item) × P item
+there None P holds = absurd holds
+there (Some item) P holds = (item, refl, holds)
+
 module _ (task : Task) where
   -- what a problem with too many nodes is
   record TooMany (problem : Problem) (reason : Fault) : Type 0 where
@@ -121,37 +134,95 @@ module _ (task : Task) where
     many : most_nodes < nodes_of problem
     reason_is : reason ≡ fault.TooLarge (in_64_bits (nodes_of problem))
 
-  too_many : (problem : Problem) (reason : Fault) → IsTooLarge task problem reason
-      → TooMany problem reason
-  too_many problem (fault.TooLarge nodes) large = record {
+  -- and one to which the scheme doesn't apply
+  record Unsuited (problem : Problem) (reason : Fault) : Type 0 where
+    which : Scheme
+    scheme_is : task_scheme task ≡ Some which
+    refusal : Refusal
+    refused : RefusesBy which problem refusal
+    reason_is : reason ≡ fault.Scheme refusal
+
+  refusals : (problem : Problem) (reason : Fault) → RefusesProblem task problem reason
+      → TooMany problem reason ⊎ Unsuited problem reason
+  refusals problem (fault.TooLarge nodes) large = inl (record {
     taken = large.0;
     normalised = large.1;
     many = large.2;
     reason_is = ap fault.TooLarge large.3;
-  }
-  too_many problem (fault.Reading reason) large = absurd large
-  too_many problem (fault.Typing reason) large = absurd large
-  too_many problem (fault.Scheme reason) large = absurd large
-  too_many problem fault.Incomplete large = absurd large
-  too_many problem (fault.Table reason) large = absurd large
-  too_many problem (fault.NotModel formula) large = absurd large
-  too_many problem fault.Write large = absurd large
-  too_many problem fault.Memory large = absurd large
+  })
+  refusals problem (fault.Scheme reason) refused =
+      let by = there (task_scheme task) (λ which. RefusesBy which problem reason) refused in
+      inr (record {
+        which = by.0;
+        scheme_is = by.1;
+        refusal = reason;
+        refused = by.2;
+        reason_is = refl;
+      })
+  refusals problem (fault.Reading reason) refused = absurd refused
+  refusals problem (fault.Typing reason) refused = absurd refused
+  refusals problem fault.Incomplete refused = absurd refused
+  refusals problem (fault.Table reason) refused = absurd refused
+  refusals problem (fault.NotModel formula) refused = absurd refused
+  refusals problem fault.Write refused = absurd refused
+  refusals problem fault.Memory refused = absurd refused
+
+  -- a problem that is refused is one for which the task is built
+  refused_taken : (problem : Problem) (reason : Fault)
+      → TooMany problem reason ⊎ Unsuited problem reason → is_taken task problem ≡ true
+  refused_taken problem reason (inl large) = large.taken
+  refused_taken problem reason (inr unsuited) =
+      takes_each task problem unsuited.which unsuited.scheme_is unsuited.refused.0.built
+
+  accepted_unrefused : (problem : Problem) (reason : Fault)
+      → TooMany problem reason ⊎ Unsuited problem reason → IsAccepted task problem → ⊥
+  accepted_unrefused problem reason (inl large) accepted =
+      let many = large.many in
+      let few = accepted.within large.normalised in absurd (omega arith)
+  accepted_unrefused problem reason (inr unsuited) accepted =
+      let applies : IsApplied unsuited.which problem =
+      subst (λ found. IfSome found (λ which. IsApplied which problem)) unsuited.scheme_is
+      accepted.applies in
+      unsuited.refused.0.unapplied (applies unsuited.refused.0.built)
+
+  many_or_unsuited : (problem : Problem) (a b : Fault) → TooMany problem a → Unsuited problem b → ⊥
+  many_or_unsuited problem a b large unsuited =
+      let many = large.many in
+      let few = unsuited.refused.0.within in absurd (omega arith)
+
+  unsuited_once : (problem : Problem) (a b : Fault) → Unsuited problem a → Unsuited problem b
+      → a ≡ b
+  unsuited_once problem a b one other =
+      let same : one.which ≡ other.which =
+      same_Some one.which other.which (sym one.scheme_is ∙ other.scheme_is) in
+      let refused : RefusesBy other.which problem one.refusal =
+      subst (λ (which : Scheme). RefusesBy which problem one.refusal) same one.refused in
+      one.reason_is
+      ∙ ap fault.Scheme (one_scheme_refusal other.which (normal_of problem) one.refusal other.refusal
+      refused.1 refused.2 other.refused.1 other.refused.2)
+      ∙ sym other.reason_is
+
+  problem_refused_once : (problem : Problem) (a b : Fault)
+      → TooMany problem a ⊎ Unsuited problem a → TooMany problem b ⊎ Unsuited problem b → a ≡ b
+  problem_refused_once problem a b (inl one) (inl other) = one.reason_is ∙ sym other.reason_is
+  problem_refused_once problem a b (inl one) (inr other) =
+      absurd (many_or_unsuited problem a b one other)
+  problem_refused_once problem a b (inr one) (inl other) =
+      absurd (many_or_unsuited problem b a other one)
+  problem_refused_once problem a b (inr one) (inr other) = unsuited_once problem a b one other
 
   -- ---- by the problem's source
 
   pub refused_not_unbuilt : (source : Lead) (reason : Fault) → IsRefusedBy task reason source
       → IsUnbuilt task source → ⊥
   refused_not_unbuilt (Ok problem) reason refused unbuilt =
-      let taken = (too_many problem reason refused).taken in cc
+      let taken = refused_taken problem reason (refusals problem reason refused) in cc
   refused_not_unbuilt (Err other) reason refused unbuilt = unbuilt
 
   pub refused_not_accepted : (source : Lead) (reason : Fault) → IsRefusedBy task reason source
       → IsAcceptable task source → ⊥
   refused_not_accepted (Ok problem) reason refused accepted =
-      let large = too_many problem reason refused in
-      let many = large.many in
-      let few = accepted.within large.normalised in absurd (omega arith)
+      accepted_unrefused problem reason (refusals problem reason refused) accepted
   refused_not_accepted (Err other) reason refused accepted = accepted
 
   pub unbuilt_not_accepted : (source : Lead) → IsUnbuilt task source → IsAcceptable task source → ⊥
@@ -162,7 +233,7 @@ module _ (task : Task) where
   pub refused_once : (source : Lead) (a b : Fault) → IsRefusedBy task a source
       → IsRefusedBy task b source → a ≡ b
   refused_once (Ok problem) a b is_a is_b =
-      (too_many problem a is_a).reason_is ∙ sym (too_many problem b is_b).reason_is
+      problem_refused_once problem a b (refusals problem a is_a) (refusals problem b is_b)
   refused_once (Err other) a b is_a is_b = is_a ∙ sym is_b
 
   -- ---- by the table's text

@@ -18,12 +18,14 @@ use Rattle.enc_marks.specs.declared.scheme.Scheme.TheVariants as scheme
 use Rattle.enc_pipeline.specs.declared.how.How.{How}
 use Rattle.enc_pipeline.specs.Causes.{nodes_of}
 use Rattle.enc_pipeline.specs.Output.{output_of}
+use Rattle.enc_pipeline.specs.Output as outputs
+use Rattle.enc_pipeline.specs.Way.{is_built}
 use Rattle.enc_pipeline.proofs.FileProblems.{spells_of, is_within, has_writable_names}
 use Rattle.enc_pipeline.proofs.Encoded.{encoded_headline}
 use Rattle.enc_pipeline.proofs.Headline.{text_and_problem}
 use Rattle.enc_run.specs.Plain.{is_plain}
 use Rattle.enc_run.specs.Erased.{erased}
-use Rattle.enc_run.specs.Leads.{Lead, LeadsTo, IsOutputOf, encodes, untyped_problem}
+use Rattle.enc_run.specs.Leads.{Lead, LeadsTo, IsOutputOf, IsApplied, encodes, untyped_problem}
 use Rattle.enc_run.specs.Work.{Change, Work, HasTable}
 use Rattle.enc_run.specs.Calls.Ending.{Ended}
 use Rattle.enc_run.specs.Promises.{IsTranslated, Models, Translated}
@@ -50,19 +52,24 @@ module _ (problem : Problem) (sound : IsSound problem) (writable : HasWritableNa
       (plain_models_are_untyped_models (normal_of problem) normal.signature normal.formulas
       (is_plain_normal-normal_of problem plain))
 
-  -- the same for each scheme and each problem that it takes
-  models : (which : Scheme) → encodes which problem ≡ true →
+  -- so has any problem to which a scheme that is built applies
+  built : (which : Scheme) → is_built which ≡ true → IsApplied which problem →
+      TextHasFiniteModel (output_of which (outputs.translated which problem).problem)
+      ↔ HasFiniteModel problem
+  built which is applies =
+      encoded_headline which is problem sound writable within (applies is)
+
+  -- the same for each scheme and each problem that it takes and to which it applies
+  models : (which : Scheme) → encodes which problem ≡ true → IsApplied which problem →
       TextHasFiniteModel (output_of which (untyped_problem which problem)) ↔ HasFiniteModel problem
-  models scheme.Guards taken = encoded_headline scheme.Guards refl problem sound writable within
-  models scheme.Tags taken = encoded_headline scheme.Tags refl problem sound writable within
-  models scheme.GuardsCover taken =
-      encoded_headline scheme.GuardsCover refl problem sound writable within
-  models scheme.TagsCover taken =
-      encoded_headline scheme.TagsCover refl problem sound writable within
-  models scheme.Args taken = absurd cc
-  models scheme.Erase taken = erased_headline taken
-  models scheme.GuardsLight taken = absurd cc
-  models scheme.TagsLight taken = absurd cc
+  models scheme.Guards taken applies = built scheme.Guards refl applies
+  models scheme.Tags taken applies = built scheme.Tags refl applies
+  models scheme.GuardsCover taken applies = built scheme.GuardsCover refl applies
+  models scheme.TagsCover taken applies = built scheme.TagsCover refl applies
+  models scheme.Args taken applies = built scheme.Args refl applies
+  models scheme.Erase taken applies = erased_headline taken
+  models scheme.GuardsLight taken applies = absurd cc
+  models scheme.TagsLight taken applies = absurd cc
 
 encoded : (how : How) (text table output : List ℕ) (source : Lead)
     (out : Change (Option (List ℕ))) → LeadsTo text source
@@ -74,7 +81,7 @@ encoded how text table output (Ok problem) out has is written =
     let spells = spells_of text file has.1 in
     let sound = typed_sound file problem (is_within text file has.1) has.2 in
     let writable = has_writable_names text problem has in
-    let together = models problem sound writable (is.0.within refl) how.scheme is.0.taken in
+    let together = models problem sound writable (is.0.within refl) how.scheme is.0.taken is.0.applies in
     record {
       together = record {
         file = file;

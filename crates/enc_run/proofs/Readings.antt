@@ -4,12 +4,13 @@ use Rattle.std.specs.Io.KnownBytes.{Appends}
 use Rattle.enc_base.specs.Library.{Files, IsHeld}
 use Rattle.enc_base.specs.Sink.{AppendsPrefix}
 use Rattle.enc_pipeline.specs.declared.fault.Fault.{Fault}
+use Rattle.enc_pipeline.specs.declared.fault.Fault.TheVariants as fault
 use Rattle.enc_run.specs.Source.{IsToldSource, AreToldSource}
 use Rattle.enc_run.specs.Texts.{OfSource, IsOutput}
-use Rattle.enc_run.specs.Calls.Ending.{EndsBy, status_at, Ended}
+use Rattle.enc_run.specs.Calls.Ending.{CountsFaults, EndsBy, status_at, Ended}
 use Rattle.enc_run.specs.Job.{table_name}
-use Rattle.enc_run.specs.Leads.{Lead, IsRefusedBy, IsTableRefusedBy, IsUnbuilt, IsAcceptable, IsOutputOf}
-use Rattle.enc_run.specs.Promises.{IsOrMemory, Complete, NotBuiltExactly, RefusedExactly, UnreadOnly, UnheldIsUnread, UnwrittenOnly, IsStatus, OutHolds, NotesHold}
+use Rattle.enc_run.specs.Leads.{Lead, IsRefusedBy, IsTableRefusedBy, IsUnbuilt, IsUnsuited, IsAcceptable, IsOutputOf}
+use Rattle.enc_run.specs.Promises.{IsOrMemory, Complete, NotBuiltExactly, RefusedExactly, UnsuitedExactly, UnreadExactly, UnheldIsUnread, UnwrittenOnly, IsStatus, OutHolds, NotesHold}
 use Rattle.enc_run.specs.Statuses.{status_of_refusal}
 use Rattle.enc_run.specs.Work.{Change, Work, Untouched, HasTable, ProblemStands}
 use Rattle.enc_run.specs.Work.{NoneFails}
@@ -18,7 +19,7 @@ use Rattle.enc_run.specs.declared.job.Task.{Task}
 use Rattle.enc_run.specs.declared.stop.Stop.TheVariants.{NotBuilt, Unread, Refused, Unwritten, Memory}
 use Rattle.enc_run.proofs.Exclusive.{refused_not_unbuilt, refused_not_accepted, unbuilt_not_accepted, table_refused_accepted, output_accepted, refused_once, table_refused_once, table_refused_not_output}
 use Rattle.enc_run.proofs.Noted.{notes_of}
-use Rattle.enc_run.proofs.Statuses.{End, not_refusal, is_status, only_refused}
+use Rattle.enc_run.proofs.Statuses.{End, not_refusal, is_status, only_refused, only_unsuited, unsuited_refused}
 use Rattle.enc_run.proofs.Told.{no_job, told, told_both, told_text, text_is_held, table_is_held, table_unread, table_fails}
 
 -- ---- the output
@@ -54,14 +55,23 @@ untouched w (Err Memory) ends not_done not_failed = ends.1
 
 -- ---- failing files and output
 
-unread : (w : Work) (end : End) → EndsBy w end → UnreadOnly w (status_at end)
-unread w (Ok done) ends is = absurd (omega arith)
-unread w (Err NotBuilt) ends is = absurd (omega arith)
-unread w (Err (Unread name)) ends is = (name, ends.0.0, ends.0.1)
-unread w (Err (Refused reason)) ends is =
-    absurd (not_refusal w reason 6 ends.0 is (λ low high. omega arith))
-unread w (Err Unwritten) ends is = absurd (omega arith)
-unread w (Err Memory) ends is = absurd (omega arith)
+unread : (w : Work) (end : End) → EndsBy w end → CountsFaults w.faults w.own end
+    → UnreadExactly w (status_at end)
+unread w (Ok done) ends counts = record { only = λ is. absurd (omega arith); kept = λ other. counts }
+unread w (Err NotBuilt) ends counts =
+    record { only = λ is. absurd (omega arith); kept = λ other. counts }
+unread w (Err (Unread name)) ends counts = record {
+  only = λ is. (name, ends.0.0, ends.0.1, counts);
+  kept = λ other. absurd (other refl);
+}
+unread w (Err (Refused reason)) ends counts = record {
+  only = λ is. absurd (not_refusal w reason 6 ends.0 is (λ low high. omega arith));
+  kept = λ other. counts;
+}
+unread w (Err Unwritten) ends counts =
+    record { only = λ is. absurd (omega arith); kept = λ other. counts }
+unread w (Err Memory) ends counts =
+    record { only = λ is. absurd (omega arith); kept = λ other. counts }
 
 unwritten : (w : Work) (end : End) → EndsBy w end → UnwrittenOnly w (status_at end)
 unwritten w (Ok done) ends is = absurd (omega arith)
@@ -212,6 +222,14 @@ at_refused w (Err Unwritten) ends job source reason is_told untroubled refused =
     (accepted_output w ends.0.0.0 job source ends.0.0.1 is_told))
 at_refused w (Err Memory) ends job source reason is_told untroubled refused = inr refl
 
+at_unsuited : (w : Work) (end : End) → EndsBy w end → (job : Job) (source : Lead)
+    → IsToldSource w job source → ProblemStands w job → IsUnsuited job.task source
+    → IsOrMemory 3 (status_at end)
+at_unsuited w end ends job source is_told untroubled unsuited =
+    let refused = unsuited_refused job.task is_told.text source is_told.leads unsuited in
+    subst (λ n. IsOrMemory n (status_at end)) refused.2
+    (at_refused w end ends job source (fault.Scheme refused.0) is_told untroubled refused.1)
+
 -- ---- told tables
 
 -- no read of a told job stops a run where none fails
@@ -304,8 +322,14 @@ module _
           (refused.0, refused.1, refused.2);
     })
 
-    pub unread_only : UnreadOnly w status
-    unread_only = at_status (UnreadOnly w) (unread w ended.end ended.ends)
+    pub unsuited_exactly : UnsuitedExactly w status
+    unsuited_exactly = at_status (UnsuitedExactly w) (record {
+      at_source = at_unsuited w ended.end ended.ends;
+      only = only_unsuited w ended.end ended.ends;
+    })
+
+    pub unread_exactly : UnreadExactly w status
+    unread_exactly = at_status (UnreadExactly w) (unread w ended.end ended.ends ended.counts)
 
     pub unheld_is_unread : UnheldIsUnread w status
     unheld_is_unread = at_status (UnheldIsUnread w) (record {

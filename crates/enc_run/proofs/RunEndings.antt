@@ -4,11 +4,11 @@ use Rattle.std.specs.Prelude.{[], IsSome}
 use Rattle.enc_base.specs.Counts.{Rose, one_more}
 use Rattle.enc_base.specs.Library.{Files, Gives, IsHeld}
 use Rattle.enc_run.specs.Texts.{OfSource, OfTexts, Fails, ReadsAsNeeded}
-use Rattle.enc_run.specs.Calls.Ending.{EndsBy, IsUnread}
+use Rattle.enc_run.specs.Calls.Ending.{CountsFaults, EndsBy, IsUnread}
 use Rattle.enc_run.specs.Job.{table_name}
 use Rattle.enc_run.specs.Leads.{Lead, IsRefusedBy, IsTableRefusedBy, IsUnbuilt, IsAcceptable, IsOutputOf}
 use Rattle.enc_run.specs.Calls.Parts.{Led, TextEnds, ReadsTable}
-use Rattle.enc_run.specs.Work.{Work, Rises, OwnRises, Untouched, GoesOn, HasText, HasTable, OfName}
+use Rattle.enc_run.specs.Work.{Change, Work, Rises, OwnRises, Untouched, GoesOn, HasText, HasTable, OfName, KeepsCounts}
 use Rattle.enc_run.specs.declared.job.Job.{Job}
 use Rattle.enc_run.specs.declared.job.Task.{Task}
 use Rattle.enc_run.specs.declared.stop.Stop.{Stop}
@@ -22,6 +22,35 @@ rose_earlier a b c later rose = omega arith
 
 one_more-later : (a : ℕ) → a ≤ one_more a
 one_more-later a = omega arith
+
+-- ---- counts of faults
+
+-- what changes none of them from a later point on, changes none where none changed before
+module _ (faults : Change ℕ) (own : Change (List ℕ → ℕ)) (between : ℕ) (own_between : List ℕ → ℕ)
+    (same : between ≡ faults.before)
+    (own_same : (name : List ℕ) → own_between name ≡ own.before name)
+  where
+    abbrev rest_faults : Change ℕ
+    rest_faults = record { before = between; after = faults.after }
+
+    abbrev rest_own : Change (List ℕ → ℕ)
+    rest_own = record { before = own_between; after = own.after }
+
+    still : KeepsCounts rest_faults rest_own → KeepsCounts faults own
+    still keeps = record {
+      same = keeps.same ∙ same;
+      own_same = λ name. keeps.own_same name ∙ own_same name;
+    }
+
+    pub run_counts : (end : Result (Unit {0}) Stop) → CountsFaults rest_faults rest_own end
+        → CountsFaults faults own end
+    run_counts (Err (Unread name)) counts =
+        λ other differs. counts other differs ∙ own_same other
+    run_counts (Ok done) counts = still counts
+    run_counts (Err NotBuilt) counts = still counts
+    run_counts (Err (Refused reason)) counts = still counts
+    run_counts (Err Unwritten) counts = still counts
+    run_counts (Err Memory) counts = still counts
 
 -- ---- runs that read nothing, or the problem alone
 

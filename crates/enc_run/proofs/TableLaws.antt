@@ -1,6 +1,5 @@
 -- What a table's text leads to for a problem: one thing alone, and what is carried is a model.
 use Rattle.std.proofs.Common.{◌≡◌, ◌≤◌, ℕ, true, List, refl}
-use Rattle.tf_check.proofs.SoundFiles.{typed_sound}
 use Rattle.tf_core.specs.declared.problem.Problem.{Problem}
 use Rattle.tf_nnf.specs.Refusal.{most_nodes}
 use Rattle.enc_marks.specs.declared.scheme.Scheme.{Scheme}
@@ -12,12 +11,12 @@ use Rattle.enc_pipeline.specs.Way.{is_built}
 use Rattle.enc_pipeline.specs.Reading.{HasProblem}
 use Rattle.enc_pipeline.specs.Ready.{IsPrepared}
 use Rattle.enc_pipeline.proofs.DistinctNames.{has_distinct_names}
-use Rattle.enc_pipeline.proofs.FileProblems.{is_within, has_writable_names}
+use Rattle.enc_pipeline.proofs.FileProblems.{has_writable_names}
 use Rattle.enc_pipeline.proofs.OneAnswer.{checking_has_one_answer, lowering_has_one_answer, lifting_has_one_answer}
-use Rattle.enc_run.specs.Leads.{RefusesTable, Writes, preparation, untyped_problem}
+use Rattle.enc_run.specs.Leads.{RefusesTable, Writes, preparation, untyped_problem, IsApplied}
 use Rattle.enc_run.specs.declared.job.Task.{Task}
 use Rattle.enc_run.specs.declared.job.Task.TheVariants.{Encode, Check, Lower, Lift}
-use Rattle.enc_run.proofs.Leads.{is_translated}
+use Rattle.enc_run.proofs.Leads.{is_translated, sound_problem}
 
 -- ---- one answer
 
@@ -52,14 +51,15 @@ pub carried_as_encoded : (how : How) (problem : Problem) → is_built how.scheme
     → translation (preparation how problem) ≡ untyped_problem how.scheme problem
 carried_as_encoded how problem built = is_translated how.scheme problem built
 
--- a text's problem within the limit is prepared in a way that is built
+-- a text's problem within the limit is prepared in a way that is built and whose scheme applies to it
 pub is_prepared : (how : How) (text : List ℕ) (problem : Problem) → HasProblem text problem
     → is_built how.scheme ≡ true → nodes_of problem ≤ most_nodes
-    → IsPrepared (preparation how problem)
-is_prepared how text problem has built within = record {
-  sound = typed_sound has.0 problem (is_within text has.0 has.1) has.2;
+    → IsApplied how.scheme problem → IsPrepared (preparation how problem)
+is_prepared how text problem has built within applies = record {
+  sound = sound_problem text problem has;
   named = has_writable_names text problem has;
   distinct = has_distinct_names text problem has;
   within = within;
   built = built;
+  applies = applies built;
 }

@@ -41,7 +41,7 @@ module _ (how : How) (name text table output : List ℕ) (out : Change (Option (
       → Appends out.before out.after output → IsLowered how text table out
   lowered_to (Err reason) has is written = absurd is
   lowered_to (Ok problem) has is written =
-      let prepared = is_prepared how text problem has is.0.taken (is.0.within refl) in
+      let prepared = is_prepared how text problem has is.0.taken (is.0.within refl) is.0.applies in
       let model = lowered_tables_are_of_models (preparation how problem) table output prepared is.1 in
       let structure = lowered (choices (preparation how problem))
       (written_normal (preparation how problem)) is.1.extension in
@@ -62,7 +62,7 @@ module _ (how : How) (name text table output : List ℕ) (out : Change (Option (
       → Appends out.before out.after output → IsLifted how text table out
   lifted_to (Err reason) has is written = absurd is
   lifted_to (Ok problem) has is written =
-      let prepared = is_prepared how text problem has is.0.taken (is.0.within refl) in
+      let prepared = is_prepared how text problem has is.0.taken (is.0.within refl) is.0.applies in
       let model = lifted_tables_are_of_models (preparation how problem) table output prepared is.1 in
       record {
         problem = problem;

@@ -1,13 +1,15 @@
 -- How the end of a part of a task on a problem's text makes the end of the task.
 use Rattle.std.proofs.Common.{◌≡◌, ◌≤◌, ◌∙◌, inl, inr, ℕ, List, Option, Some, Result, Ok, Err, true, refl, sym, ap, subst}
-use Rattle.std.specs.Prelude.{[]}
+use Rattle.std.specs.Prelude.{[], IsSomeAnd}
 use Rattle.std.specs.Io.KnownBytes.{Appends}
 use Rattle.enc_base.specs.Library.{IsHeld}
 use Rattle.tf_core.specs.declared.problem.Problem.{Problem}
+use Rattle.tf_core.specs.Sound.{IsSound}
 use Rattle.tf_nnf.specs.NormalForm.{normal_of}
 use Rattle.tf_nnf.specs.Refusal.{most_nodes}
 use Rattle.fof_models.specs.declared.problem.FofProblem.{FofProblem}
 use Rattle.enc_marks.specs.declared.scheme.Scheme.{Scheme}
+use Rattle.enc_marks.specs.Applies.{Applies}
 use Rattle.enc_pipeline.specs.Carried.{IsLoweredTo, IsUnlowered, IsLiftedTo, IsUnlifted}
 use Rattle.enc_pipeline.specs.Causes.{IsUnreadable, IsUnprepared, nodes_of}
 use Rattle.enc_pipeline.specs.Output.{output, output_of}
@@ -19,8 +21,8 @@ use Rattle.enc_pipeline.specs.declared.fault.Fault.{Fault}
 use Rattle.enc_pipeline.specs.declared.fault.Fault.TheVariants as fault
 use Rattle.enc_run.specs.Calls.Ending.{IsUnread}
 use Rattle.enc_run.specs.Job.{table_name}
-use Rattle.enc_run.specs.Leads.{is_taken, is_normalised, IsAccepted, IsAcceptable}
-use Rattle.enc_run.specs.Leads.{RefusesTable, Writes, encodes, preparation, untyped_problem}
+use Rattle.enc_run.specs.Leads.{is_taken, is_normalised, task_scheme, IsAccepted, IsAcceptable}
+use Rattle.enc_run.specs.Leads.{RefusesBy, RefusesTable, Writes, encodes, preparation, untyped_problem}
 use Rattle.enc_run.specs.Calls.Parts.{Led, LedToOutput, ProblemEnds, ProblemStops, IsWritten, EncodingEnds, HasPrepared, TextStops, TextEnds}
 use Rattle.enc_run.specs.Stop.{stop_of}
 use Rattle.enc_run.specs.Work.{Change, Work, Rises, OwnRises, Untouched, HasText, HasTable}
@@ -28,7 +30,7 @@ use Rattle.enc_run.specs.declared.job.Task.{Task}
 use Rattle.enc_run.specs.declared.job.Task.TheVariants.{Encode, Check, Lower, Lift}
 use Rattle.enc_run.specs.declared.stop.Stop.{Stop}
 use Rattle.enc_run.specs.declared.stop.Stop.TheVariants.{NotBuilt, Unread, Refused, Unwritten, Memory}
-use Rattle.enc_run.proofs.Leads.{is_encoded, is_translated, unrefused}
+use Rattle.enc_run.proofs.Leads.{is_encoded, is_translated, is_refused, sound_problem}
 
 -- a text that has no problem stops each task
 pub unreadable_stops : (task : Task) (text : List ℕ) (reason : Fault) → IsUnreadable text reason
@@ -48,20 +50,27 @@ unreadable_stops task text fault.Memory unread = tt
 -- a problem that can't be prepared in a way that is built stops each task that rests on its normal
 -- problem
 module _ (task : Task) (text : List ℕ) (problem : Problem) (has : HasProblem text problem)
-    (taken : is_taken task problem ≡ true) (normalised : is_normalised task ≡ true) where
-  pub unprepared_stops : (how : How) → is_built how.scheme ≡ true → (reason : Fault)
+    (taken : is_taken task problem ≡ true) (normalised : is_normalised task ≡ true) (how : How)
+    (scheme_is : task_scheme task ≡ Some how.scheme) where
+  pub unprepared_stops : is_built how.scheme ≡ true → (reason : Fault)
       → IsUnprepared problem how reason → TextStops task text (stop_of reason)
-  unprepared_stops how built (fault.Reading reason) why = absurd why
-  unprepared_stops how built (fault.Typing reason) why = absurd why
-  unprepared_stops how built (fault.TooLarge nodes) why =
+  unprepared_stops built (fault.Reading reason) why = absurd why
+  unprepared_stops built (fault.Typing reason) why = absurd why
+  unprepared_stops built (fault.TooLarge nodes) why =
       (Ok problem, has, (taken, normalised, why.0, why.1))
-  unprepared_stops how built (fault.Scheme reason) why =
-      absurd (unrefused how.scheme (normal_of problem) built reason why.1 why.2)
-  unprepared_stops how built fault.Incomplete why = absurd why
-  unprepared_stops how built (fault.Table reason) why = absurd why
-  unprepared_stops how built (fault.NotModel formula) why = absurd why
-  unprepared_stops how built fault.Write why = absurd why
-  unprepared_stops how built fault.Memory why = tt
+  unprepared_stops built (fault.Scheme reason) why = (
+    Ok problem,
+    has,
+    subst (λ (found : Option Scheme). IsSomeAnd found (λ which. RefusesBy which problem reason))
+        (sym scheme_is)
+        (is_refused how.scheme problem built (sound_problem text problem has) why.0 reason why.1
+        why.2),
+  )
+  unprepared_stops built fault.Incomplete why = absurd why
+  unprepared_stops built (fault.Table reason) why = absurd why
+  unprepared_stops built (fault.NotModel formula) why = absurd why
+  unprepared_stops built fault.Write why = absurd why
+  unprepared_stops built fault.Memory why = tt
 
 module _ (task : Task) (text : List ℕ) (w : Work) where
   -- the task is stopped by its problem's text
@@ -123,20 +132,28 @@ module _ (task : Task) (text : List ℕ) (w : Work) where
 
 -- each problem is accepted to be checked
 pub checked : (name : List ℕ) (problem : Problem) → IsAccepted (Check name) problem
-checked name problem = record { taken = refl; within = λ normalised. absurd cc }
+checked name problem = record { taken = refl; within = λ normalised. absurd cc; applies = tt }
 
 -- ---- lower and lift
 
 module _ (how : How) (name text : List ℕ) (p : Preparation) (is : HasPrepared how text p)
   where
     lowered : IsAccepted (Lower name how) is.problem
-    lowered = record { taken = is.taken; within = λ normalised. is.within }
+    lowered = record {
+      taken = is.taken;
+      within = λ normalised. is.within;
+      applies = λ built. is.applies;
+    }
 
     pub lowerable : Led text (IsAcceptable (Lower name how))
     lowerable = (Ok is.problem, is.has, lowered)
 
     lifted : IsAccepted (Lift name how) is.problem
-    lifted = record { taken = is.taken; within = λ normalised. is.within }
+    lifted = record {
+      taken = is.taken;
+      within = λ normalised. is.within;
+      applies = λ built. is.applies;
+    }
 
     pub liftable : Led text (IsAcceptable (Lift name how))
     liftable = (Ok is.problem, is.has, lifted)
@@ -175,7 +192,8 @@ module _ (how : How) (name text : List ℕ) (p : Preparation) (is : HasPrepared 
 -- ---- encode
 
 -- the encoding of a problem in a way that is built
-module _ (how : How) (problem : Problem) (built : is_built how.scheme ≡ true) where
+module _ (how : How) (problem : Problem) (built : is_built how.scheme ≡ true)
+    (sound : IsSound problem) where
   -- what isn't prepared stops it
   pub unprepared : (reason : Fault) → IsUnprepared problem how reason
       → ProblemStops how.scheme problem (stop_of reason)
@@ -184,7 +202,7 @@ module _ (how : How) (problem : Problem) (built : is_built how.scheme ≡ true) 
   unprepared (fault.TooLarge nodes) why =
       (is_encoded how.scheme problem built, why.0, why.1)
   unprepared (fault.Scheme reason) why =
-      absurd (unrefused how.scheme (normal_of problem) built reason why.1 why.2)
+      is_refused how.scheme problem built sound why.0 reason why.1 why.2
   unprepared fault.Incomplete why = absurd why
   unprepared (fault.Table reason) why = absurd why
   unprepared (fault.NotModel formula) why = absurd why
@@ -193,10 +211,11 @@ module _ (how : How) (problem : Problem) (built : is_built how.scheme ≡ true) 
 
   -- so much of its output is so much of its encoding
   pub written : (Part : List ℕ → Type 0) → nodes_of problem ≤ most_nodes
-      → Part (output (preparation how problem)) → IsWritten how.scheme problem Part
-  written Part within part = record {
+      → Applies how.scheme (normal_of problem) → Part (output (preparation how problem)) → IsWritten how.scheme problem Part
+  written Part within applies part = record {
     taken = is_encoded how.scheme problem built;
     within = within;
+    applies = λ is. applies;
     written =
         subst (λ (p : FofProblem). Part (output_of how.scheme p))
         (is_translated how.scheme problem built) part;
@@ -233,7 +252,14 @@ module _ (how : How) (text : List ℕ) (out : Change (Option (List ℕ))) (fault
     whole written = (
       Ok problem,
       has,
-      (record { taken = written.taken; within = λ normalised. written.within }, refl),
+      (
+        record {
+          taken = written.taken;
+          within = λ normalised. written.within;
+          applies = written.applies;
+        },
+        refl,
+      ),
     )
 
     -- the encoding of the text ends as that of its problem
@@ -247,7 +273,7 @@ module _ (how : How) (text : List ℕ) (out : Change (Option (List ℕ))) (fault
         ((Ok problem, has, (ends.0.0, refl, ends.0.1, ends.0.2)), ends.1)
     encoding_ends (Err (Refused (fault.Reading reason))) ends = absurd ends.0
     encoding_ends (Err (Refused (fault.Typing reason))) ends = absurd ends.0
-    encoding_ends (Err (Refused (fault.Scheme reason))) ends = absurd ends.0
+    encoding_ends (Err (Refused (fault.Scheme reason))) ends = ((Ok problem, has, ends.0), ends.1)
     encoding_ends (Err (Refused fault.Incomplete)) ends = absurd ends.0
     encoding_ends (Err (Refused (fault.Table reason))) ends = absurd ends.0
     encoding_ends (Err (Refused (fault.NotModel formula))) ends = absurd ends.0

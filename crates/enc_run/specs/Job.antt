@@ -26,7 +26,8 @@ scheme_of name =
     else (if bytes_eq name (scheme_name scheme.Tags) then Some scheme.Tags
     else (if bytes_eq name (scheme_name scheme.GuardsCover) then Some scheme.GuardsCover
     else (if bytes_eq name (scheme_name scheme.TagsCover) then Some scheme.TagsCover
-    else (if bytes_eq name (scheme_name scheme.Erase) then Some scheme.Erase else None))))
+    else (if bytes_eq name (scheme_name scheme.Args) then Some scheme.Args
+    else (if bytes_eq name (scheme_name scheme.Erase) then Some scheme.Erase else None)))))
 
 -- ---- tasks, by the name of the action
 

@@ -1,17 +1,20 @@
 -- What the texts of a job lead to: a refusal, or an output.
 use Rattle.std.specs.Prelude.{◌≡◌, ◌≢◌, ◌<◌, ◌≤◌, ℕ, Bool, true, false, List, Result, Ok, Err}
+use Rattle.std.specs.Prelude.{Option, Some, None, IfSome, IsSomeAnd}
 use Rattle.enc_base.specs.Counts.{in_64_bits}
 use Rattle.tf_core.specs.declared.problem.Problem.{Problem}
 use Rattle.tf_nnf.specs.NormalForm.{normal_of}
 use Rattle.tf_nnf.specs.Refusal.{most_nodes}
 use Rattle.fof_models.specs.declared.problem.FofProblem.{FofProblem}
+use Rattle.enc_marks.specs.declared.refusal.Refusal.{Refusal}
 use Rattle.enc_marks.specs.declared.scheme.Scheme.{Scheme}
 use Rattle.enc_marks.specs.declared.scheme.Scheme.TheVariants as scheme
+use Rattle.enc_marks.specs.Applies.{Applies, IsRefused}
 use Rattle.enc_pipeline.specs.declared.fault.Fault.{Fault}
 use Rattle.enc_pipeline.specs.declared.fault.Fault.TheVariants as fault
 use Rattle.enc_pipeline.specs.Carried.{IsNoModel, IsCheckedTo}
 use Rattle.enc_pipeline.specs.Carried.{IsLoweredTo, IsUnlowered, IsLiftedTo, IsUnlifted}
-use Rattle.enc_pipeline.specs.Causes.{IsUnreadable, nodes_of}
+use Rattle.enc_pipeline.specs.Causes.{IsSchemeRefusal, IsUnreadable, nodes_of}
 use Rattle.enc_pipeline.specs.Output.{output_of, translated}
 use Rattle.enc_pipeline.specs.Reading.{HasProblem}
 use Rattle.enc_pipeline.specs.Way.{Preparation, is_built}
@@ -23,7 +26,7 @@ use Rattle.enc_run.specs.declared.job.Task.TheVariants.{Encode, Check, Lower, Li
 
 -- ---- schemes
 
--- whether a problem is encoded by a scheme: by one that is built all are, and by `erase` the plain
+-- whether a problem is taken by a scheme: by one that is built all are, and by `erase` the plain
 -- ones
 abbrev pub encodes : Scheme → Problem → Bool
 encodes scheme.Erase problem = is_plain problem
@@ -33,6 +36,23 @@ encodes which problem = is_built which
 abbrev pub untyped_problem : Scheme → Problem → FofProblem
 untyped_problem scheme.Erase problem = erased (normal_of problem)
 untyped_problem which problem = (translated which problem).problem
+
+-- A scheme that is built applies to a problem. That which isn't built takes plain problems alone, to
+-- which it applies.
+abbrev pub IsApplied : Scheme → Problem → Type 0
+IsApplied which problem = is_built which ≡ true → Applies which (normal_of problem)
+
+-- a scheme that is built doesn't apply to a problem, whose normal problem is within the limit
+pub record IsUnapplied (which : Scheme) (problem : Problem) : Type 0 where
+  pub built : is_built which ≡ true
+  pub within : nodes_of problem ≤ most_nodes
+  pub unapplied : Applies which (normal_of problem) → ⊥
+
+-- and this is the reason for which it is refused
+abbrev pub RefusesBy : Scheme → Problem → Refusal → Type 0
+RefusesBy which problem reason =
+    IsUnapplied which problem × IsSchemeRefusal reason
+    × IsRefused which (normal_of problem) reason
 
 -- the problem and the way in which it is prepared
 abbrev pub preparation : How → Problem → Preparation
@@ -56,23 +76,32 @@ is_taken (Check table) problem = true
 is_taken (Lower table how) problem = is_built how.scheme
 is_taken (Lift table how) problem = is_built how.scheme
 
+-- the scheme of a task, where it has one
+abbrev pub task_scheme : Task → Option Scheme
+task_scheme (Encode how) = Some how.scheme
+task_scheme (Check table) = None
+task_scheme (Lower table how) = Some how.scheme
+task_scheme (Lift table how) = Some how.scheme
+
 -- whether a task rests on the normal problem, whose nodes are limited
 abbrev pub is_normalised : Task → Bool
 is_normalised (Check table) = false
 is_normalised _ = true
 
--- The problem is refused for this reason: no scheme that is built refuses one, but the normal
--- problem may have too many nodes.
-abbrev pub IsTooLarge : Task → Problem → Fault → Type 0
-IsTooLarge task problem (fault.TooLarge nodes) =
+-- The problem is refused for this reason: its normal problem has too many nodes, or else the task's
+-- scheme doesn't apply to it.
+abbrev pub RefusesProblem : Task → Problem → Fault → Type 0
+RefusesProblem task problem (fault.TooLarge nodes) =
     (is_taken task problem ≡ true) × (is_normalised task ≡ true)
     × (most_nodes < nodes_of problem) × (nodes ≡ in_64_bits (nodes_of problem))
-IsTooLarge task problem _ = ⊥
+RefusesProblem task problem (fault.Scheme reason) =
+    IsSomeAnd (task_scheme task) (λ which. RefusesBy which problem reason)
+RefusesProblem task problem _ = ⊥
 
 -- The problem's source is refused for this reason. Neither want of memory nor a failed write is a
 -- refusal.
 abbrev pub IsRefusedBy : Task → Fault → Lead → Type 0
-IsRefusedBy task reason (Ok problem) = IsTooLarge task problem reason
+IsRefusedBy task reason (Ok problem) = RefusesProblem task problem reason
 IsRefusedBy task reason (Err other) = reason ≡ other
 
 -- the source leads to a problem, for which the task isn't built
@@ -80,11 +109,17 @@ abbrev pub IsUnbuilt : Task → Lead → Type 0
 IsUnbuilt task (Ok problem) = is_taken task problem ≡ false
 IsUnbuilt task (Err reason) = ⊥
 
--- The task is built for the problem, which is within the limits: nothing is refused before a table
--- is read.
+-- the source leads to a problem to which the task's scheme doesn't apply
+abbrev pub IsUnsuited : Task → Lead → Type 0
+IsUnsuited task (Ok problem) = IsSomeAnd (task_scheme task) (λ which. IsUnapplied which problem)
+IsUnsuited task (Err reason) = ⊥
+
+-- The task is built for the problem, which is within the limits, and its scheme applies to it:
+-- nothing is refused before a table is read.
 pub record IsAccepted (task : Task) (problem : Problem) : Type 0 where
   pub taken : is_taken task problem ≡ true
   pub within : is_normalised task ≡ true → nodes_of problem ≤ most_nodes
+  pub applies : IfSome (task_scheme task) (λ which. IsApplied which problem)
 
 -- the source leads to such a problem
 abbrev pub IsAcceptable : Task → Lead → Type 0

@@ -1,5 +1,5 @@
 -- What a run promises, one promise a definition. A text is told where the library tells its files.
-use Rattle.std.specs.Prelude.{◌≡◌, ◌⊎◌, ◌↔◌, ◌++◌, ℕ, List, Option, Some, None}
+use Rattle.std.specs.Prelude.{◌≡◌, ◌≢◌, ◌⊎◌, ◌↔◌, ◌++◌, ℕ, List, Option, Some, None}
 use Rattle.std.specs.Io.KnownBytes.{Appends}
 use Rattle.enc_base.specs.Library.{Files, IsHeld}
 use Rattle.enc_base.specs.Sink.{AppendsPrefix}
@@ -16,12 +16,12 @@ use Rattle.enc_pipeline.specs.RefusalNumbers.{number_of}
 use Rattle.enc_run.specs.Source.{IsToldSource, AreToldSource}
 use Rattle.enc_run.specs.Texts.{OfSource, IsRefused, IsOutput, IsInput, Fails}
 use Rattle.enc_run.specs.Job.{table_name}
-use Rattle.enc_run.specs.Leads.{Lead, IsRefusedBy, IsTableRefusedBy, IsUnbuilt, IsAcceptable}
+use Rattle.enc_run.specs.Leads.{Lead, IsRefusedBy, IsTableRefusedBy, IsUnbuilt, IsUnsuited, IsAcceptable}
 use Rattle.enc_run.specs.Leads.{IsOutputOf, untyped_problem}
 use Rattle.enc_run.specs.Note.{line, number_word, not_built, cannot_read, cannot_write, no_memory}
 use Rattle.enc_run.specs.Statuses.{status_of_refusal}
 use Rattle.enc_run.specs.Work.{Change, Work, Rises, OwnRises, Untouched, Adds, IsTold}
-use Rattle.enc_run.specs.Work.{IsNameOf, ProblemStands, NoneFails}
+use Rattle.enc_run.specs.Work.{IsNameOf, ProblemStands, NoneFails, KeepsCounts}
 use Rattle.enc_run.specs.declared.job.Job.{Job}
 use Rattle.enc_run.specs.declared.job.Task.TheVariants.{Encode}
 
@@ -79,11 +79,11 @@ pub record NotBuiltExactly (w : Work) (status : ℕ) : Type 0 where
       → ProblemStands w job → IsUnbuilt job.task source → IsOrMemory 9 status
   pub only : status ≡ 9 → (w.job ≡ None) ⊎ OfSource w IsUnbuilt
 
--- the status is that of a refusal: of a text, a table, or by a limit
+-- the status is that of a refusal: of a text, by the scheme, of a table, or by a limit
 abbrev pub IsOfRefusal : ℕ → Type 0
-IsOfRefusal status = (status ≡ 1) ⊎ (status ≡ 4) ⊎ (status ≡ 5)
+IsOfRefusal status = (status ≡ 1) ⊎ (status ≡ 3) ⊎ (status ≡ 4) ⊎ (status ≡ 5)
 
--- 1, 4 and 5 come exactly where the problem or the table is refused, by the status of the reason
+-- 1, 3, 4 and 5 come exactly where the problem or the table is refused, by the status of the reason
 pub record RefusedExactly (w : Work) (status : ℕ) : Type 0 where
   pub at_source : (job : Job) (source : Lead) (reason : Fault) → IsToldSource w job source
       → ProblemStands w job → IsRefusedBy job.task reason source
@@ -95,10 +95,19 @@ pub record RefusedExactly (w : Work) (status : ℕ) : Type 0 where
   pub only : IsOfRefusal status
       → (reason : Fault) × IsRefused w reason × (status_of_refusal reason ≡ status)
 
+-- 3 comes exactly where the job's scheme doesn't apply to its problem, and nothing refuses that before
+pub record UnsuitedExactly (w : Work) (status : ℕ) : Type 0 where
+  pub at_source : (job : Job) (source : Lead) → IsToldSource w job source → ProblemStands w job
+      → IsUnsuited job.task source → IsOrMemory 3 status
+  pub only : status ≡ 3 → OfSource w IsUnsuited
+
 -- 6 comes only where a read of the problem failed, or one of the table, which comes only where
--- nothing before it refuses
-abbrev pub UnreadOnly : Work → ℕ → Type 0
-UnreadOnly w status = status ≡ 6 → (name : List ℕ) × IsInput w name × Fails w name
+-- nothing before it refuses; no other name's count changed. At any other status no read failed.
+pub record UnreadExactly (w : Work) (status : ℕ) : Type 0 where
+  pub only : status ≡ 6
+      → (name : List ℕ) × IsInput w name × Fails w name
+      × ((other : List ℕ) → other ≢ name → w.own.after other ≡ w.own.before other)
+  pub kept : (status ≡ 6 → ⊥) → KeepsCounts w.faults w.own
 
 -- 6 comes where the library tells its files and none under the problem's name, or none under the
 -- table's where nothing before it refuses
@@ -117,8 +126,8 @@ UnwrittenOnly w status = status ≡ 7 → Rises w.out_faults
 -- there is no other status
 abbrev pub IsStatus : ℕ → Type 0
 IsStatus status =
-    (status ≡ 0) ⊎ (status ≡ 1) ⊎ (status ≡ 4) ⊎ (status ≡ 5) ⊎ (status ≡ 6) ⊎ (status ≡ 7)
-    ⊎ (status ≡ 8) ⊎ (status ≡ 9)
+    (status ≡ 0) ⊎ (status ≡ 1) ⊎ (status ≡ 3) ⊎ (status ≡ 4) ⊎ (status ≡ 5) ⊎ (status ≡ 6)
+    ⊎ (status ≡ 7) ⊎ (status ≡ 8) ⊎ (status ≡ 9)
 
 -- ---- what is written
 

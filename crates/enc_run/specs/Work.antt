@@ -48,6 +48,14 @@ seen_of l o job files files_after out out_after = record {
   out_faults = faults_of o out out_after;
 }
 
+-- the same of a library's count of faults, and of its counts for each name
+
+abbrev pub read_faults_of : {L : Type 0} → library.Ghosts L → L → L → Change ℕ
+read_faults_of l before after = record { before = l.faults before; after = l.faults after }
+
+abbrev pub own_faults_of : {L : Type 0} → library.Ghosts L → L → L → Change (List ℕ → ℕ)
+own_faults_of l before after = record { before = l.own_faults before; after = l.own_faults after }
+
 -- a run with these words
 abbrev pub run_of : {L O A : Type 0} → library.Ghosts L → sink.Ghosts O → List (String A) → L → L
     → O → O → Work
@@ -78,6 +86,11 @@ Adds bytes faults text =
     ⊎ (AppendsPrefix bytes.before bytes.after text × Rises faults)
 
 -- ---- files
+
+-- a library's counts of faults, its own and each name's, are what they were
+pub record KeepsCounts (faults : Change ℕ) (own : Change (List ℕ → ℕ)) : Type 0 where
+  pub same : faults.after ≡ faults.before
+  pub own_same : (name : List ℕ) → own.after name ≡ own.before name
 
 -- what no read changes: the files, and that no count falls
 pub record GoesOn (w : Work) (held_after : Option Files) : Type 0 where

@@ -40,6 +40,8 @@ fn scheme_of(name: &str) -> Option<Scheme>
         Some(Scheme::GuardsCover)
     } else if name == scheme_name(&Scheme::TagsCover) {
         Some(Scheme::TagsCover)
+    } else if name == scheme_name(&Scheme::Args) {
+        Some(Scheme::Args)
     } else if name == scheme_name(&Scheme::Erase) {
         Some(Scheme::Erase)
     } else {

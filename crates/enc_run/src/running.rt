@@ -1,11 +1,11 @@
 //! The top call.
 
 ghost use Rattle.std.specs.Prelude.{◌≡◌, Some};
-ghost use Rattle.enc_run.specs.Work.{GoesOn, bytes_of, faults_of, rest_of, run_of, seen_of};
+ghost use Rattle.enc_run.specs.Work.{GoesOn, bytes_of, faults_of, own_faults_of, read_faults_of, rest_of, run_of, seen_of};
 ghost use Rattle.enc_run.specs.Texts.{ReadsAsNeeded};
-ghost use Rattle.enc_run.specs.Calls.Ending.{EndsBy, Ended, Noted, status_at};
+ghost use Rattle.enc_run.specs.Calls.Ending.{CountsFaults, EndsBy, Ended, Noted, status_at};
 ghost use Rattle.enc_run.specs.Calls.Parts.{IsPlainTask, TextEnds, ReadsTable};
-ghost use Rattle.enc_run.specs.Promises.{Models, Translated, Complete, NotBuiltExactly, RefusedExactly, UnreadOnly, UnheldIsUnread, UnwrittenOnly, IsStatus, OutHolds, NotesHold};
+ghost use Rattle.enc_run.specs.Promises.{Models, Translated, Complete, NotBuiltExactly, RefusedExactly, UnsuitedExactly, UnreadExactly, UnheldIsUnread, UnwrittenOnly, IsStatus, OutHolds, NotesHold};
 ghost use Rattle.enc_run.specs.TablePromises.{Checks, Lowers, Lifts};
 
 use crate::job::{Job, Task, read_words};
@@ -30,6 +30,8 @@ fn perform<L: Library, O: Sink>(
         (rest_of L.Library O.Sink files.old files.new out.old out.new) result }
     ensures reads { ReadsTable task text.now
         (rest_of L.Library O.Sink files.old files.new out.old out.new) }
+    ensures counts { CountsFaults (read_faults_of L.Library files.old files.new)
+        (own_faults_of L.Library files.old files.new) result }
     ensures goes { GoesOn
         (rest_of L.Library O.Sink files.old files.new out.old out.new)
         (L.held files.new) }
@@ -54,6 +56,8 @@ fn finish<L: Library, O: Sink>(
         (seen_of L.Library O.Sink (Some job) files.old files.new out.old out.new) result }
     ensures reads { ReadsAsNeeded
         (seen_of L.Library O.Sink (Some job) files.old files.new out.old out.new) }
+    ensures counts { CountsFaults (read_faults_of L.Library files.old files.new)
+        (own_faults_of L.Library files.old files.new) result }
     ensures goes { GoesOn
         (seen_of L.Library O.Sink (Some job) files.old files.new out.old out.new)
         (L.held files.new) }
@@ -73,6 +77,8 @@ fn work<L: Library, O: Sink>(
         (run_of L.Library O.Sink words.now files.old files.new out.old out.new) result }
     ensures reads { ReadsAsNeeded
         (run_of L.Library O.Sink words.now files.old files.new out.old out.new) }
+    ensures counts { CountsFaults (read_faults_of L.Library files.old files.new)
+        (own_faults_of L.Library files.old files.new) result }
     ensures goes { GoesOn
         (run_of L.Library O.Sink words.now files.old files.new out.old out.new)
         (L.held files.new) }
@@ -151,9 +157,11 @@ pub fn run<L: Library, O: Sink, E: Sink>(
     // Each other status comes for its cause.
     ensures refused { RefusedExactly
         (run_of L.Library O.Sink words.now files.old files.new out.old out.new) result }
+    ensures unsuited { UnsuitedExactly
+        (run_of L.Library O.Sink words.now files.old files.new out.old out.new) result }
     ensures not_built { NotBuiltExactly
         (run_of L.Library O.Sink words.now files.old files.new out.old out.new) result }
-    ensures unread { UnreadOnly
+    ensures unread { UnreadExactly
         (run_of L.Library O.Sink words.now files.old files.new out.old out.new) result }
     ensures unheld { UnheldIsUnread
         (run_of L.Library O.Sink words.now files.old files.new out.old out.new) result }

@@ -2,8 +2,9 @@
 
 ghost use Rattle.std.specs.Prelude.{◌≡◌, ℕ, List, IfOk, IfErr};
 ghost use Rattle.enc_pipeline.specs.Way.{plain_way};
+ghost use Rattle.enc_run.specs.Calls.Ending.{CountsFaults};
 ghost use Rattle.enc_run.specs.Calls.Parts.{TextEnds, TextStops, HasPrepared, ReadsTable};
-ghost use Rattle.enc_run.specs.Work.{rest_of, GoesOn};
+ghost use Rattle.enc_run.specs.Work.{rest_of, GoesOn, read_faults_of, own_faults_of};
 ghost use Rattle.enc_run.specs.declared.job.Task.TheVariants.{Check, Lower, Lift};
 
 use crate::reading::read_text;
@@ -26,6 +27,8 @@ pub fn check_text<L: Library, O: Sink>(
         (rest_of L.Library O.Sink files.old files.new out.old out.new) result }
     ensures reads { ReadsTable (Check table) text.now
         (rest_of L.Library O.Sink files.old files.new out.old out.new) }
+    ensures counts { CountsFaults (read_faults_of L.Library files.old files.new)
+        (own_faults_of L.Library files.old files.new) result }
     ensures goes { GoesOn
         (rest_of L.Library O.Sink files.old files.new out.old out.new)
         (L.held files.new) }
@@ -64,6 +67,8 @@ pub fn lower_text<L: Library, O: Sink>(
         (rest_of L.Library O.Sink files.old files.new out.old out.new) result }
     ensures reads { ReadsTable (Lower table how) text.now
         (rest_of L.Library O.Sink files.old files.new out.old out.new) }
+    ensures counts { CountsFaults (read_faults_of L.Library files.old files.new)
+        (own_faults_of L.Library files.old files.new) result }
     ensures goes { GoesOn
         (rest_of L.Library O.Sink files.old files.new out.old out.new)
         (L.held files.new) }
@@ -88,6 +93,8 @@ pub fn lift_text<L: Library, O: Sink>(
         (rest_of L.Library O.Sink files.old files.new out.old out.new) result }
     ensures reads { ReadsTable (Lift table how) text.now
         (rest_of L.Library O.Sink files.old files.new out.old out.new) }
+    ensures counts { CountsFaults (read_faults_of L.Library files.old files.new)
+        (own_faults_of L.Library files.old files.new) result }
     ensures goes { GoesOn
         (rest_of L.Library O.Sink files.old files.new out.old out.new)
         (L.held files.new) }

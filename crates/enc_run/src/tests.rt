@@ -9,7 +9,6 @@ use std::alloc::Global;
 use std::fs;
 use std::fs::File;
 use std::test::Fail;
-use tf_naked::Place;
 
 // What a run over two files in memory gives.
 #[derive(Drop)]
@@ -114,6 +113,15 @@ function as = 2 2 2 2 2 3 3 3 3 4 2 2 2 2 2 3 3 3 3 4 3 3 3 3 4.
 
 const IDEMPOTENCE: &str = "% tfenc tags_cover complete
 fof(tag_idempotence,axiom,![X0]: ![X1]: as(X0,as(X0,X1)) = as(X0,X1)).
+";
+
+// a problem with two types, whose first axiom has naked variables
+const NAKED: &str = "tff(a,type,a: $tType).
+tff(b,type,b: $tType).
+tff(c,type,c: b).
+tff(d,type,d: b).
+tff(one,axiom,![X: a,Y: a]: X = Y).
+tff(two,axiom,c != d).
 ";
 
 // so many axioms, a line each
@@ -250,47 +258,114 @@ fn each_read_fails_in_turn(rt: HostRuntime) -> Result<(), Fail> {
 // Notes that fail, at once, within their first word or behind it, change no status.
 #[test]
 fn failing_notes_change_no_status(rt: HostRuntime) -> Result<(), Fail> {
-    for (text, line, writes, status, note) in [
+    let guarded = "encode p";
+    for (text, table, line, writes, status, note) in [
         (
             "fof(x,axiom,a & b | c).",
-            "encode p",
+            "",
+            guarded,
             [9],
             1,
             "tfenc: 3 syntax at 18\n",
         ),
         (
             "fof(x,axiom,a &",
-            "encode p",
+            "",
+            guarded,
             [9],
             1,
             "tfenc: 3 syntax at 15\n",
         ),
         (
+            "fof(x,axiom,p(\"a\")).",
+            "",
+            guarded,
+            [9],
+            1,
+            "tfenc: 8 distinct object at 14\n",
+        ),
+        (
             "include('a.ax').",
-            "encode p",
+            "",
+            guarded,
             [9],
             1,
             "tfenc: 9 include at 0\n",
         ),
         (
+            "cnf(x,axiom,p).",
+            "",
+            guarded,
+            [9],
+            1,
+            "tfenc: 5 language at 0\n",
+        ),
+        (
+            "fof(x,unknown,p).",
+            "",
+            guarded,
+            [9],
+            1,
+            "tfenc: 6 role at 6\n",
+        ),
+        (
+            "fof(x,axiom,p#q).",
+            "",
+            guarded,
+            [9],
+            1,
+            "tfenc: 1 bad byte at 13\n",
+        ),
+        (
             "fof(x,axiom,'p).",
-            "encode p",
+            "",
+            guarded,
             [9],
             1,
             "tfenc: 2 unclosed at 12\n",
         ),
         (
             "fof(x,axiom,p(X)).",
-            "encode p",
+            "",
+            guarded,
             [9],
             1,
             "tfenc: 14 free variable X in entry 0\n",
         ),
-        ("", "encode", [9], 9, "tfenc: not built\n"),
-        ("", "paint p", [9], 9, "tfenc: not built\n"),
-        ("", "check - -", [9], 9, "tfenc: not built\n"),
-        ("", "encode q", [9], 6, "tfenc: cannot read q\n"),
-        ("", "encode p", [1], 7, "tfenc: cannot write\n"),
+        (
+            "",
+            "typed 1. sizes 1.",
+            "check p t",
+            [9],
+            4,
+            "tfenc: 43 missing $i\n",
+        ),
+        (
+            "",
+            "typed 1. sizes 70000000. type $i = 0.",
+            "check p t",
+            [9],
+            5,
+            "tfenc: 33 table too large 70000001\n",
+        ),
+        (
+            NAKED,
+            "",
+            "encode p --scheme args",
+            [9],
+            3,
+            "tfenc: 32 naked variable in formula 0 equation 0 side 0\n",
+        ),
+        (
+            NAKED,
+            "",
+            "encode p --scheme erase",
+            [9],
+            9,
+            "tfenc: not built\n",
+        ),
+        ("", "", "encode q", [9], 6, "tfenc: cannot read q\n"),
+        ("", "", guarded, [1], 7, "tfenc: cannot write\n"),
     ] {
         for noted in [0, 3, 9] {
             let writes = writes.as_slice();
@@ -299,7 +374,7 @@ fn failing_notes_change_no_status(rt: HostRuntime) -> Result<(), Fail> {
                 noted,
                 ..NONE
             };
-            let seen = see(rt.alloc(), (text, ""), line, failing)?;
+            let seen = see(rt.alloc(), (text, table), line, failing)?;
             assert_eq!(rt; seen.status, status, "at {text}");
             assert!(rt; seen.out.is_empty());
             assert_eq!(rt; seen.notes.len(), noted, "at {text}");
@@ -309,6 +384,47 @@ fn failing_notes_change_no_status(rt: HostRuntime) -> Result<(), Fail> {
             );
         }
     }
+    Ok(())
+}
+
+// Nor do they where the words give no job.
+#[test]
+fn failing_notes_change_no_status_of_words(rt: HostRuntime) -> Result<(), Fail> {
+    for line in [
+        "encode",
+        "encode p t",
+        "check p",
+        "paint p",
+        "encode p --scheme guard",
+        "encode p --mono --rounds 9",
+        "encode p --cap 0",
+        "generate 0",
+        "check - -",
+    ] {
+        for noted in [0, 3, 9] {
+            let seen = see(rt.alloc(), ("", ""), line, Failing { noted, ..NONE })?;
+            assert_eq!(rt; seen.status, 9, "at {line}");
+            assert!(rt; seen.out.is_empty());
+            assert_eq!(rt; seen.notes.len(), noted, "at {line}");
+            assert!(rt;
+                b"tfenc: not built\n".starts_with(seen.notes.as_slice()),
+                "at {line}"
+            );
+        }
+    }
+    Ok(())
+}
+
+// An output that is written whole needs no notes.
+#[test]
+fn failing_notes_change_no_output(rt: HostRuntime) -> Result<(), Fail> {
+    let wanted = "% tfenc erase complete\nfof(x,axiom,((a | b) & (~a | ~b))).\n";
+    let texts = ("fof(x,axiom,a <~> b).", "");
+    let failing = Failing { noted: 0, ..NONE };
+    let seen = see(rt.alloc(), texts, "encode p --scheme erase", failing)?;
+    assert_eq!(rt; seen.status, 0);
+    assert_eq!(rt; seen.out.as_slice(), wanted.as_bytes());
+    assert!(rt; seen.notes.is_empty());
     Ok(())
 }
 
@@ -406,19 +522,5 @@ fn a_long_text_stops_at_the_write_that_fails(rt: HostRuntime) -> Result<(), Fail
         assert_eq!(rt; out.written().len(), sent);
         assert!(rt; text.as_slice().starts_with(out.written()));
     }
-    Ok(())
-}
-
-// No text leads to a place yet, so no case shows its copy.
-#[test]
-fn a_place_is_the_same_as_its_copy(rt: HostRuntime) -> Result<(), Fail> {
-    let place = Place {
-        formula: 3,
-        equation: 2,
-        side: 1,
-    };
-    let copied = place.copy(rt.alloc())?;
-    assert_eq!(rt; (copied.formula, copied.equation, copied.side), (3, 2, 1));
-    assert!(rt; copied.same(&place));
     Ok(())
 }

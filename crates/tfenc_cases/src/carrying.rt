@@ -9,6 +9,7 @@ ghost use Rattle.tf_nnf.specs.NormalForm.{normal_of};
 ghost use Rattle.fof_models.specs.Sound as untyped;
 ghost use Rattle.fof_models.specs.Models.{AreModel};
 ghost use Rattle.fof_text.specs.States.{AreNamed};
+ghost use Rattle.enc_marks.specs.Applies.{Applies};
 ghost use Rattle.enc_marks.specs.Encoded.{encoded};
 ghost use Rattle.enc_marks.specs.Schemes.{choices_of};
 ghost use Rattle.enc_pipeline.specs.Distinct.{HasDistinctNames};
@@ -46,6 +47,7 @@ fn lowered_by(
     model: &TypedStructure,
 ) -> Result<Structure, Stop>
     requires sound { IsSoundNormal normal.now }
+    requires applies { Applies which.now normal.now }
     requires encoded { made.now ≡ encoded (choices_of which.now normal.now) normal.now }
     requires model { typed.AreNormalModel normal.now (tables model.now) }
     requires few { length model.now.sizes < 2 ^ 32 }
@@ -55,6 +57,7 @@ fn lowered_by(
         Scheme::Tags => enc_tags::lower(alloc, Scheme::Tags, normal, made, model),
         Scheme::GuardsCover => enc_cover::lower(alloc, Scheme::GuardsCover, normal, made, model),
         Scheme::TagsCover => enc_cover::lower(alloc, Scheme::TagsCover, normal, made, model),
+        Scheme::Args => enc_args::lower(alloc, Scheme::Args, normal, made, model),
         _ => return Err(not_built(alloc)),
     };
     match lowered {
@@ -72,6 +75,7 @@ fn lifted_by(
     model: &Structure,
 ) -> Result<TypedStructure, Stop>
     requires sound { IsSoundNormal normal.now }
+    requires applies { Applies which.now normal.now }
     requires encoded { made.now ≡ encoded (choices_of which.now normal.now) normal.now }
     requires model { AreModel made.now.problem model.now }
 {
@@ -80,6 +84,7 @@ fn lifted_by(
         Scheme::Tags => enc_tags::lift(alloc, Scheme::Tags, normal, made, model),
         Scheme::GuardsCover => enc_cover::lift(alloc, Scheme::GuardsCover, normal, made, model),
         Scheme::TagsCover => enc_cover::lift(alloc, Scheme::TagsCover, normal, made, model),
+        Scheme::Args => enc_args::lift(alloc, Scheme::Args, normal, made, model),
         _ => return Err(not_built(alloc)),
     };
     match lifted {
@@ -183,6 +188,7 @@ fn put_lowered(
     extension: &TypedStructure,
 ) -> Result<(), Stop>
     requires sound { IsSoundNormal normal.now }
+    requires applies { Applies which.now normal.now }
     requires encoded { made.now.encoded ≡ encoded (choices_of which.now normal.now) normal.now }
     requires model { typed.AreNormalModel normal.now (tables extension.now) }
     requires few { length extension.now.sizes < 2 ^ 32 }
@@ -202,6 +208,7 @@ fn put_back(
     extension: &TypedStructure,
 ) -> Result<(), Stop>
     requires sound { IsSoundNormal normal.now }
+    requires applies { Applies which.now normal.now }
     requires encoded { made.now ≡ encoded (choices_of which.now normal.now) normal.now }
     requires translated { untyped.IsSound made.now.problem }
     requires model { typed.AreNormalModel normal.now (tables extension.now) }
@@ -234,6 +241,7 @@ fn put_lifted(
     model: &Structure,
 ) -> Result<(), Stop>
     requires sound { IsSoundNormal normal.now }
+    requires applies { Applies which.now normal.now }
     requires encoded { made.now ≡ encoded (choices_of which.now normal.now) normal.now }
     requires model { AreModel made.now.problem model.now }
 {
@@ -272,6 +280,7 @@ fn lift_model(
     table: &[u8],
 ) -> Result<(), Stop>
     requires sound { IsSoundNormal normal.now }
+    requires applies { Applies which.now normal.now }
     requires encoded { made.now.encoded ≡ encoded (choices_of which.now normal.now) normal.now }
     requires translated { untyped.IsSound made.now.encoded.problem }
     requires named { AreNamed made.now.names made.now.encoded.problem }

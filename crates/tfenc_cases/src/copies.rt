@@ -12,6 +12,7 @@ use crate::stop::Stop;
 use crate::syntax::file_of;
 use enc_marks::Scheme;
 use tf_core::{Normal, Problem};
+use tf_naked::first_naked;
 
 /// Whether the call is one of this layer, which is then made.
 pub fn answer(name: &[u8], call: &mut Call<'_>, out: &mut Out) -> Result<bool, Stop> {
@@ -55,7 +56,18 @@ fn copied_normal(out: &mut Out, problem: &Problem) -> Result<(), Stop>
 {
     let normal = normal_of(out.alloc, problem)?;
     put_normal(out, &normal)?;
+    copied_place(out, &normal)?;
     copied_encoded(out, &normal)
+}
+
+// the first naked place, if there is one
+fn copied_place(out: &mut Out, normal: &Normal) -> Result<(), Stop>
+    requires sound { IsSoundNormal normal.now }
+{
+    if let Some(place) = first_naked(normal) {
+        out.told(b"place ", &place.same(&place.copy(out.alloc)?));
+    }
+    Ok(())
 }
 
 fn put_normal(out: &mut Out, normal: &Normal) -> Result<(), Stop> {

@@ -9,16 +9,16 @@ ghost use Rattle.fof_models.specs.Sound.{IsSound};
 ghost use Rattle.fof_models.specs.Models.{AreModel};
 ghost use Rattle.fof_models.specs.Structures.{IsWellFormed};
 ghost use Rattle.fof_text.specs.States.{AreNamed};
+ghost use Rattle.enc_marks.specs.Applies.{Applies};
 ghost use Rattle.enc_marks.specs.Encoded.{encoded};
-ghost use Rattle.enc_marks.specs.Schemes.{args, choices_of};
+ghost use Rattle.enc_marks.specs.Schemes.{choices_of};
 ghost use Rattle.enc_marks.specs.Laws.{IsByType};
 
 use crate::call::Call;
-use crate::choices::Args;
 use crate::given::{normal_of, problem_of};
 use crate::refusals::{no_model, not_built, unencoded, untabled};
 use crate::stop::Stop;
-use enc_marks::{Encoded, Scheme, encode};
+use enc_marks::{Encoded, Scheme};
 use fof_models::{FofEnv, FofProblem, Structure};
 use fof_text::Names;
 use model_tables::read_untyped;
@@ -32,24 +32,13 @@ pub struct Encoding {
     pub names: Names,
 }
 
-// neither tags nor guards
-fn bare_by(alloc: Global, normal: &Normal) -> Result<Encoded, Stop>
-    requires sound { IsSoundNormal normal.now }
-    ensures exact { IfOk result (λ made. made ≡ encoded args normal.now) }
-{
-    match encode(alloc, &Args, normal) {
-        Ok(made) => Ok(made),
-        Err(_) => Err(Stop::Memory),
-    }
-}
-
-/// The translation of a normal problem. Schemes that treat all terms alike are translated without a
-/// test that they apply.
+/// The translation of a normal problem.
 pub fn encoded_by(alloc: Global, which: &Scheme, normal: &Normal) -> Result<Encoded, Stop>
     requires sound { IsSoundNormal normal.now }
     ensures exact { IfOk result (λ made.
         made ≡ encoded (choices_of which.now normal.now) normal.now) }
     ensures by_type { IfOk result (λ _. IsByType (choices_of which.now normal.now)) }
+    ensures applies { IfOk result (λ _. Applies which.now normal.now) }
 {
     match which {
         Scheme::Guards => match enc_guards::encode(alloc, Scheme::Guards, normal) {
@@ -68,7 +57,10 @@ pub fn encoded_by(alloc: Global, which: &Scheme, normal: &Normal) -> Result<Enco
             Ok(made) => Ok(made),
             Err(reason) => Err(unencoded(alloc, &reason)),
         },
-        Scheme::Args => bare_by(alloc, normal),
+        Scheme::Args => match enc_args::encode(alloc, Scheme::Args, normal) {
+            Ok(made) => Ok(made),
+            Err(reason) => Err(unencoded(alloc, &reason)),
+        },
         _ => Err(not_built(alloc)),
     }
 }
@@ -109,6 +101,7 @@ pub fn encoding_by(
     ensures named { IfOk result (λ e. AreNamed e.names e.encoded.problem) }
     ensures exact { IfOk result (λ e.
         e.encoded ≡ encoded (choices_of which.now normal.now) normal.now) }
+    ensures applies { IfOk result (λ _. Applies which.now normal.now) }
 {
     let encoded = encoded_by(alloc, which, normal)?;
     if !encoded.problem.is_sound() {

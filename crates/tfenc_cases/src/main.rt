@@ -7,7 +7,6 @@ mod binders;
 mod bounds;
 mod call;
 mod carrying;
-mod choices;
 mod copies;
 mod counting;
 mod encoding;

@@ -1,4 +1,4 @@
-//! Which argument places are covers, and how the variables of binders stand.
+//! Which argument places are covers, how the variables of binders stand, and the first naked place.
 
 ghost use Rattle.std.specs.Prelude.{◌≡◌, map};
 ghost use Rattle.tf_core.specs.Sound.{IsSound, IsSoundNormal};
@@ -13,7 +13,7 @@ use enc_base::List;
 use enc_cover::{cover_of, is_undercover};
 use std::alloc::Global;
 use tf_core::{Normal, Problem, Symbol};
-use tf_naked::{Binder, covers_of_symbols, kept_of_symbol, universal_binders};
+use tf_naked::{Binder, Place, covers_of_symbols, first_naked, kept_of_symbol, universal_binders};
 
 /// Whether the call is one of this layer, which is then made.
 pub fn answer(name: &[u8], call: &mut Call<'_>, out: &mut Out) -> Result<bool, Stop> {
@@ -25,6 +25,8 @@ pub fn answer(name: &[u8], call: &mut Call<'_>, out: &mut Out) -> Result<bool, S
         binders(call, out)?;
     } else if name == b"is_undercover".as_slice() {
         undercover(call, out)?;
+    } else if name == b"first_naked".as_slice() {
+        first_naked_place(call, out)?;
     } else {
         return Ok(false);
     }
@@ -191,4 +193,32 @@ fn put_undercover_at(out: &mut Out, normal: &Normal, formula: usize)
     for binder in 0..count {
         put_flag(out, is_undercover(normal, formula, binder));
     }
+}
+
+// the first naked place of the normal problem
+fn first_naked_place(call: &Call<'_>, out: &mut Out) -> Result<(), Stop> {
+    let problem = problem_of(call.alloc, call.text())?;
+    put_first_naked(out, &problem)
+}
+
+fn put_first_naked(out: &mut Out, problem: &Problem) -> Result<(), Stop>
+    requires sound { IsSound problem.now }
+{
+    let normal = normal_of(out.alloc, problem)?;
+    match first_naked(&normal) {
+        Some(place) => put_place(out, &place),
+        None => out.line(b"none"),
+    }
+    Ok(())
+}
+
+fn put_place(out: &mut Out, place: &Place) {
+    out.begin();
+    out.put(b"formula ");
+    out.show(&place.formula);
+    out.put(b" equation ");
+    out.show(&place.equation);
+    out.put(b" side ");
+    out.show(&place.side);
+    out.end();
 }

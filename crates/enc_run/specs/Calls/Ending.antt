@@ -1,11 +1,11 @@
 -- How a run ends, and what each way to end rests on. This need not be believed: the promises of a
 -- run follow from it, and cite none of it.
-use Rattle.std.specs.Prelude.{◌≡◌, ◌⊎◌, ℕ, List, Option, None, Result, Ok, Err}
+use Rattle.std.specs.Prelude.{◌≡◌, ◌≢◌, ◌⊎◌, ℕ, List, Option, None, Result, Ok, Err}
 use Rattle.std.specs.Io.KnownBytes.{Appends}
 use Rattle.enc_base.specs.Sink.{AppendsPrefix}
 use Rattle.enc_run.specs.Leads.{IsUnbuilt}
 use Rattle.enc_run.specs.Texts.{OfSource, IsRefused, IsOutput, IsInput, Fails, ReadsAsNeeded}
-use Rattle.enc_run.specs.Work.{Change, Work, Rises, Untouched}
+use Rattle.enc_run.specs.Work.{Change, Work, Rises, Untouched, KeepsCounts}
 use Rattle.enc_run.specs.Calls.Note.{Notes}
 use Rattle.enc_run.specs.Stop.{status_of}
 use Rattle.enc_run.specs.declared.stop.Stop.{Stop}
@@ -42,6 +42,13 @@ abbrev pub Noted : Result (Unit {0}) Stop → Change (Option (List ℕ)) → Cha
 Noted (Ok done) notes faults = (notes.after ≡ notes.before) × (faults.after ≡ faults.before)
 Noted (Err stop) notes faults = Notes stop notes faults
 
+-- How a library's counts of faults stand after an end: as they were, but for those of the read that
+-- stopped the run.
+abbrev pub CountsFaults : {A : Type 0} → Change ℕ → Change (List ℕ → ℕ) → Result A Stop → Type 0
+CountsFaults faults own (Err (Unread name)) =
+    (other : List ℕ) → other ≢ name → own.after other ≡ own.before other
+CountsFaults faults own _ = KeepsCounts faults own
+
 -- how a run ended, with the status and the notes that belong to it
 pub record Ended (w : Work) (notes : Change (Option (List ℕ))) (notes_faults : Change ℕ)
     (status : ℕ) : Type 0 where
@@ -50,6 +57,7 @@ pub record Ended (w : Work) (notes : Change (Option (List ℕ))) (notes_faults :
   pub ends : EndsBy w end
   pub noted : Noted end notes notes_faults
   pub reads : ReadsAsNeeded w
+  pub counts : CountsFaults w.faults w.own end
 
 -- how a read of the named file stops a run, where these counts rose
 abbrev pub IsUnread : List ℕ → Type 0 → Type 0 → Stop → Type 0

@@ -13,7 +13,8 @@ use Rattle.fof_models.specs.Sound as untyped
 use Rattle.fof_text.specs.Names.{chosen_names}
 use Rattle.fof_text.specs.States.{AreNamed}
 use Rattle.enc_marks.specs.declared.scheme.Scheme.{Scheme}
-use Rattle.enc_pipeline.specs.declared.fault.Fault.TheVariants.{TooLarge}
+use Rattle.enc_marks.specs.Applies.{Applies}
+use Rattle.enc_pipeline.specs.declared.fault.Fault.TheVariants as fault
 use Rattle.enc_pipeline.specs.Causes.{nodes_of}
 use Rattle.enc_pipeline.specs.Output.{output_of}
 use Rattle.enc_pipeline.specs.Reading.{HasProblem}
@@ -25,7 +26,7 @@ use Rattle.enc_run.specs.Texts.{Fails}
 use Rattle.enc_run.specs.Job.{table_name}
 use Rattle.enc_run.specs.Leads.{Lead, LeadsTo, IsRefusedBy, IsTableRefusedBy, IsUnbuilt}
 use Rattle.enc_run.specs.Leads.{IsAcceptable, IsOutputOf}
-use Rattle.enc_run.specs.Leads.{encodes, untyped_problem, preparation}
+use Rattle.enc_run.specs.Leads.{encodes, untyped_problem, preparation, IsApplied, RefusesBy}
 use Rattle.enc_run.specs.Work.{Change, Work, Rises, Untouched, HasTable}
 use Rattle.enc_run.specs.declared.job.Task.{Task}
 use Rattle.enc_run.specs.declared.job.Task.TheVariants.{Encode, Check, Lower, Lift}
@@ -53,16 +54,19 @@ pub record IsTranslationOf (source : Problem) (problem : FofProblem) : Type 0 wh
 -- how a problem stops a run before anything is written
 abbrev pub ProblemStops : Scheme → Problem → Stop → Type 0
 ProblemStops which problem NotBuilt = encodes which problem ≡ false
-ProblemStops which problem (Refused (TooLarge nodes)) =
+ProblemStops which problem (Refused (fault.TooLarge nodes)) =
     (encodes which problem ≡ true) × (most_nodes < nodes_of problem)
     × (nodes ≡ in_64_bits (nodes_of problem))
+ProblemStops which problem (Refused (fault.Scheme reason)) = RefusesBy which problem reason
 ProblemStops which problem Memory = Unit {0}
 ProblemStops which problem _ = ⊥
 
--- the problem is taken and within the limits, and so much is written of its encoding
+-- the problem is taken, within the limits, and one to which the scheme applies, and so much is
+-- written of its encoding
 pub record IsWritten (which : Scheme) (problem : Problem) (Part : List ℕ → Type 0) : Type 0 where
   pub taken : encodes which problem ≡ true
   pub within : nodes_of problem ≤ most_nodes
+  pub applies : IsApplied which problem
   pub written : Part (output_of which (untyped_problem which problem))
 
 module _ (which : Scheme) (problem : Problem) (out : Change (Option (List ℕ))) (faults : Change ℕ)
@@ -106,12 +110,14 @@ TextStops task text (Refused reason) = Led text (IsRefusedBy task reason)
 TextStops task text Memory = Unit {0}
 TextStops task text _ = ⊥
 
--- the text has the problem, which is within the limits, and it is prepared in a way that is built
+-- the text has the problem, which is within the limits, and it is prepared in a way that is built and
+-- whose scheme applies to it
 pub record HasPrepared (how : How) (text : List ℕ) (prepared : Preparation) : Type 0 where
   pub problem : Problem
   pub has : HasProblem text problem
   pub taken : is_built how.scheme ≡ true
   pub within : nodes_of problem ≤ most_nodes
+  pub applies : Applies how.scheme (normal_of problem)
   pub is : prepared ≡ preparation how problem
 
 -- How a task on a problem's text ends, as seen from the read of that text on: `w` is what is seen

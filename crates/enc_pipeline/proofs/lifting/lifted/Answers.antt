@@ -2,9 +2,14 @@ use Rattle.std.proofs.Common.{rules, sym, subst}
 use Rattle.tf_core.specs.Sound.{IsSoundNormal}
 use Rattle.tf_models.specs.Reading.{tables}
 use Rattle.enc_marks.specs.Schemes.{choices_of}
-use Rattle.enc_pipeline.proofs.Ready.{sound_normal}
+use Rattle.enc_pipeline.proofs.Ready.{sound_normal, applies_to_parts}
 use Rattle.enc_pipeline.proofs.Carry.{is_lifted, is_not_lifted, few_members}
 use Rattle.enc_pipeline.proofs.lifting.lifted.Goals as goal
+
+pub lift-requires-clause-applies : goal.lift-requires-clause-applies
+lift-requires-clause-applies c =
+    applies_to_parts c.args.prepared.now c.scheme.result.now c.normal-normal.result.now
+    c.normal-normal.ensures.prepared c.scheme.ensures.exact c.normal-normal.ensures.exact
 
 pub lift-requires-clause-sound : goal.lift-requires-clause-sound
 lift-requires-clause-sound c =

@@ -1,9 +1,14 @@
 use Rattle.std.proofs.Common.{sym, subst}
 use Rattle.tf_core.specs.Sound.{IsSoundNormal}
 use Rattle.tf_models.specs.Reading.{tables}
-use Rattle.enc_pipeline.proofs.Ready.{sound_normal}
+use Rattle.enc_pipeline.proofs.Ready.{sound_normal, applies_to_parts}
 use Rattle.enc_pipeline.proofs.Carry.{is_lowered}
 use Rattle.enc_pipeline.proofs.lowering.lowered.Goals as goal
+
+pub lower-requires-clause-applies : goal.lower-requires-clause-applies
+lower-requires-clause-applies c =
+    applies_to_parts c.args.prepared.now c.scheme.result.now c.normal.result.now
+    c.normal.ensures.prepared c.scheme.ensures.exact c.normal.ensures.exact
 
 pub lower-requires-clause-sound : goal.lower-requires-clause-sound
 lower-requires-clause-sound c =

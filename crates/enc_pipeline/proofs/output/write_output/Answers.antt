@@ -3,8 +3,13 @@ use Rattle.enc_pipeline.proofs.output.write_output.Goals as goal
 
 pub returns-clause-exact : goal.returns-clause-exact
 returns-clause-exact g c =
-    where_ok c.finish.result (all_sent c.new-pending.ensures
-    (then_put c.put_first_line.ensures c.put_problem.ensures)) c.finish.ensures.exact
+    where_ok c.finish.result (λ finished. (all_sent c.new-pending.ensures
+    (then_put c.put_first_line.ensures c.put_problem.ensures) finished).0) c.finish.ensures.exact
+
+pub returns-clause-kept_faults : goal.returns-clause-kept_faults
+returns-clause-kept_faults g c =
+    where_ok c.finish.result (λ finished. (all_sent c.new-pending.ensures
+    (then_put c.put_first_line.ensures c.put_problem.ensures) finished).1) c.finish.ensures.exact
 
 pub returns-clause-within : goal.returns-clause-within
 returns-clause-within g c =

@@ -23,3 +23,9 @@ returns-in-TagsCover-clause-exact c = rw c.in-TagsCover.is c.lift-in-TagsCover.e
 
 pub returns-in-TagsCover-clause-within : goal.returns-in-TagsCover-clause-within
 returns-in-TagsCover-clause-within c = rw c.in-TagsCover.is c.lift-in-TagsCover.ensures.within
+
+pub returns-in-Args-clause-exact : goal.returns-in-Args-clause-exact
+returns-in-Args-clause-exact c = rw c.in-Args.is c.lift-in-Args.ensures.exact
+
+pub returns-in-Args-clause-within : goal.returns-in-Args-clause-within
+returns-in-Args-clause-within c = rw c.in-Args.is c.lift-in-Args.ensures.within

@@ -11,3 +11,6 @@ returns-in-GuardsCover-clause-exact c = rw c.in-GuardsCover.is c.lower-in-Guards
 
 pub returns-in-TagsCover-clause-exact : goal.returns-in-TagsCover-clause-exact
 returns-in-TagsCover-clause-exact c = rw c.in-TagsCover.is c.lower-in-TagsCover.ensures.exact
+
+pub returns-in-Args-clause-exact : goal.returns-in-Args-clause-exact
+returns-in-Args-clause-exact c = rw c.in-Args.is c.lower-in-Args.ensures.exact

@@ -25,7 +25,7 @@ returns-in_err-prepared g c =
     let ends = handed_on (ProblemEnds c.args.how.scheme c.args.problem _ _) c.from_residual.result
     (stop_of reason) c.from_residual.ensures
     (problem_stopped c.args.how.scheme c.args.problem _ _ (stop_of reason)
-    (unprepared c.args.how c.args.problem c.requires.built reason
+    (unprepared c.args.how c.args.problem c.requires.built c.requires.sound reason
     c.in_err-prepared.ensures.refused) (Keeps-refl _, refl)) in
     record { ends = ends }
 
@@ -45,8 +45,8 @@ returns-in_err-encode_file g c =
     (bytes_of g.O.Sink c.args.out.now c.encode_file.new.out)
     (faults_of g.O.Sink c.args.out.now c.encode_file.new.out) (Err (stop_of f)))
     (sym failed.cause.0) (
-      written c.args.how c.args.problem c.requires.built (λ (text : List ℕ). AppendsPrefix old new text)
-          c.in_ok-prepared.ensures.within part,
+      written c.args.how c.args.problem c.requires.built c.requires.sound (λ (text : List ℕ). AppendsPrefix old new text)
+          c.in_ok-prepared.ensures.within c.in_ok-prepared.ensures.applies part,
       failed.cause.1,
     )) in
     record { ends = ends }
@@ -56,8 +56,8 @@ returns g c =
     let old = g.O.Sink.bytes c.args.out.now in
     let new = g.O.Sink.bytes c.encode_file.new.out in
     let ends =
-    written c.args.how c.args.problem c.requires.built (λ (text : List ℕ). Appends old new text)
-    c.in_ok-prepared.ensures.within
+    written c.args.how c.args.problem c.requires.built c.requires.sound (λ (text : List ℕ). Appends old new text)
+    c.in_ok-prepared.ensures.within c.in_ok-prepared.ensures.applies
     (subst (λ (p : Preparation). Appends old new (output p)) c.in_ok-prepared.ensures.exact
     c.in_ok-encode_file.ensures.exact) in
     record { ends = ends }

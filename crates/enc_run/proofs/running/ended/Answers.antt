@@ -8,4 +8,5 @@ returns-clause-ended g c = record {
   ends = c.work-end.ensures.ends;
   noted = c.close.ensures.noted;
   reads = c.work-end.ensures.reads;
+  counts = c.work-end.ensures.counts;
 }

@@ -1,7 +1,7 @@
 use Rattle.std.proofs.Common.{refl}
 use Rattle.std.proofs.KnownBytes.{Keeps-refl}
-use Rattle.enc_run.specs.Calls.Ending.{EndsBy}
-use Rattle.enc_run.proofs.RunEndings.{reads_problem, problem_unread, run_ends, run_reads, run_goes}
+use Rattle.enc_run.specs.Calls.Ending.{CountsFaults, EndsBy}
+use Rattle.enc_run.proofs.RunEndings.{reads_problem, problem_unread, run_ends, run_reads, run_counts, run_goes}
 use Rattle.enc_pipeline.proofs.HandedOn.{handed_on}
 use Rattle.enc_run.proofs.running.finish.Goals as goal
 
@@ -33,6 +33,18 @@ returns-clause-reads g c =
     (g.L.Library.held files) c.read_text.ensures.same_files (g.L.Library.faults files)
     (g.L.Library.reads files) own c.read_text.ensures.counted
     (rw c.deref.ensures.value at c.perform.ensures.reads)
+
+pub returns-in_err-text-clause-counts : goal.returns-in_err-text-clause-counts
+returns-in_err-text-clause-counts g c =
+    handed_on (CountsFaults _ _) c.from_residual.result c.in_err-text.field-0.0
+    c.from_residual.ensures c.in_err-text.ensures.counts
+
+pub returns-clause-counts : goal.returns-clause-counts
+returns-clause-counts g c =
+    let files = c.read_text.new.files in
+    let counts = c.in_ok-text.ensures.counts in
+    run_counts _ _ (g.L.Library.faults files) (g.L.Library.own_faults files) counts.same
+    counts.own_same c.perform.result c.perform.ensures.counts
 
 pub returns-clause-goes : goal.returns-clause-goes
 returns-clause-goes g c =

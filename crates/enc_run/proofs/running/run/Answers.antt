@@ -1,4 +1,4 @@
-use Rattle.enc_run.proofs.Readings.{is_complete, refused_exactly, not_built_exactly, unread_only, unheld_is_unread, unwritten_only, out_holds, notes_hold, status_is_one}
+use Rattle.enc_run.proofs.Readings.{is_complete, refused_exactly, not_built_exactly, unsuited_exactly, unread_exactly, unheld_is_unread, unwritten_only, out_holds, notes_hold, status_is_one}
 use Rattle.enc_run.proofs.Headline.{have_models, translated}
 use Rattle.enc_run.proofs.TablePromises.{checks, lowers, lifts}
 use Rattle.enc_run.proofs.running.run.Goals as goal
@@ -24,11 +24,14 @@ returns-clause-lifts g c = lifts _ _ _ _ c.ended.ensures.ended
 pub returns-clause-refused : goal.returns-clause-refused
 returns-clause-refused g c = refused_exactly _ _ _ _ c.ended.ensures.ended
 
+pub returns-clause-unsuited : goal.returns-clause-unsuited
+returns-clause-unsuited g c = unsuited_exactly _ _ _ _ c.ended.ensures.ended
+
 pub returns-clause-not_built : goal.returns-clause-not_built
 returns-clause-not_built g c = not_built_exactly _ _ _ _ c.ended.ensures.ended
 
 pub returns-clause-unread : goal.returns-clause-unread
-returns-clause-unread g c = unread_only _ _ _ _ c.ended.ensures.ended
+returns-clause-unread g c = unread_exactly _ _ _ _ c.ended.ensures.ended
 
 pub returns-clause-unheld : goal.returns-clause-unheld
 returns-clause-unheld g c = unheld_is_unread _ _ _ _ c.ended.ensures.ended

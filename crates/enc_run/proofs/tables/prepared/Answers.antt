@@ -27,8 +27,8 @@ returns-in_err-prepare-clause-cause c =
     TextStops (Lower name how) text stop × TextStops (Lift name how) text stop))
     c.from_residual-in_err-prepare.result (stop_of reason) c.from_residual-in_err-prepare.ensures
     (λ name. (
-      unprepared_stops (Lower name how) text c.in_ok-source.source has (search rules) refl how
+      unprepared_stops (Lower name how) text c.in_ok-source.source has (search rules) refl how refl
           (search rules) reason refused,
-      unprepared_stops (Lift name how) text c.in_ok-source.source has (search rules) refl how
+      unprepared_stops (Lift name how) text c.in_ok-source.source has (search rules) refl how refl
           (search rules) reason refused,
     ))
