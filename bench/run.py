@@ -19,6 +19,7 @@ entry that is refused at the stage behind the one that is measured, so that only
 Last come the greatest over the least time per byte of each family from 1 MiB on, and the targets that are missed."""
 import argparse
 import os
+import random
 import shutil
 import subprocess
 import sys
@@ -64,9 +65,40 @@ def typed_lists(size, most=21000):
     return '\n'.join(lines) + '\n'
 
 
-def axioms(size):
-    line = 'fof(monotone,axiom,![X,Y]: (less(X,succ(Y)) => (even(X) | ~ odd(Y,plus(X,Y))))).\n'
-    return line * (size // len(line))
+PAIRS = ['tff(pair,type,pair: ($tType * $tType) > $tType).', *(f'tff(t{i},type,t{i}: $tType).' for i in range(100))]
+
+
+def nested_pairs(leaves):
+    """A type of nested pairs over the leaves, as flat as can be."""
+    while len(leaves) > 1:
+        pairs = [f'pair({left},{right})' for left, right in zip(leaves[::2], leaves[1::2])]
+        leaves = pairs + leaves[len(leaves) - len(leaves) % 2:]
+    return leaves[0]
+
+
+def mixed_leaves(count, more=()):
+    """So many leaves in no order, so that few parts of a type over them are equal."""
+    ground = [f't{i}' for i in range(100)]
+    return random.Random(count).choices([*ground, *(name for name in more for _ in ground)], k=count)
+
+
+def filled(lines, line, size):
+    """The lines, and then the line as often as it fits."""
+    begin = '\n'.join(lines) + '\n'
+    return begin + line * max(1, (size - len(begin)) // len(line))
+
+
+def wide_types(size):
+    """A ground type, written at a constant and at a predicate, that is a tenth of the text, and atoms at it."""
+    ty = nested_pairs(mixed_leaves(size // 200))
+    return filled([*PAIRS, f'tff(c,type,c: {ty}).', f'tff(p,type,p: {ty} > $o).'], 'tff(a,axiom,p(c)).\n', size)
+
+
+def wide_instances(size):
+    """A polymorphic function whose result has about as many leaves as the text has lines, and atoms at instances of it."""
+    ty = nested_pairs(mixed_leaves(size // 45, ['A']))
+    declared = [f'tff(f,type,f: !>[A: $tType]: {ty}).', f'tff(p,type,p: !>[A: $tType]: ({ty} > $o)).']
+    return filled([*PAIRS, *declared], 'tff(a,axiom,p(t0,f(t0))).\n', size)
 
 
 def deep(size):
@@ -95,12 +127,14 @@ FAMILIES = {
     'reading': {
         'typed lists': typed_lists, 'chain': chain, 'list': wide, 'comment': comment, 'spaces': spaces,
     },
-    'typing': {'typed lists': typed_lists, 'axioms': axioms},
+    'typing': {
+        'typed lists': typed_lists, 'axioms': axioms, 'wide types': wide_types, 'wide instances': wide_instances,
+    },
     'encoding': {'axioms': axioms, 'deep': deep, 'wide': wide},
 }
 ENDS = {'reading': BAD_WORD, 'typing': TWO_CONJECTURES, 'encoding': ''}
 STATUSES = {'reading': 1, 'typing': 1, 'encoding': 0}
-MEMORY = {'reading': 64, 'typing': None, 'encoding': 200}
+MEMORY = {'reading': 64, 'typing': 200, 'encoding': 200}
 MOST_OF_WC = {'reading': 25}
 SCHEMES = ['guards', 'tags', 'guards_cover', 'tags_cover']
 
@@ -269,7 +303,7 @@ def main():
     # (the launcher builds the program where it is missing or old)
     measured([LAUNCHER])
     base = measured([TFENC])[1]
-    print(f'{"stage":9} {"family":12} {"bytes":>10} {"ns/byte":>9} {"memory/byte":>12} {"times wc -w":>12}')
+    print(f'{"stage":9} {"family":14} {"bytes":>10} {"ns/byte":>9} {"memory/byte":>12} {"times wc -w":>12}')
     for stage in options.stages or ['hostile', *FAMILIES, 'guards', 'schemes', 'tables', 'models']:
         if stage == 'guards':
             guards(options, base, missed)
@@ -309,7 +343,7 @@ def main():
                         missed.append(f'{stage} {family} {len(text)}: {room:.1f} bytes of memory per byte')
                     if stage in MOST_OF_WC and seconds > MOST_OF_WC[stage] * words:
                         missed.append(f'{stage} {family} {len(text)}: {seconds / words:.1f} times wc -w')
-                print(f'{stage:9} {family:12} {len(text):10} {per_byte * 1e9:9.1f} {room:12.1f} {seconds / words:12.1f}')
+                print(f'{stage:9} {family:14} {len(text):10} {per_byte * 1e9:9.1f} {room:12.1f} {seconds / words:12.1f}')
                 sys.stdout.flush()
                 size *= 2
             if times and max(times) > 2 * min(times):

@@ -1,6 +1,7 @@
 -- When untyped terms, formulas and problems are sound: indices in range, symbols in their kind and
 -- at their arity, variables bound, and counts within bounds.
-use Rattle.std.specs.Prelude.{ℕ, ◌+◌, ◌^◌, ◌<◌, Bool, true, false, not, ◌&&◌, List, [], ◌∷◌, map, length, eqb, leb, ltb, max, sum, slice_get, Option, Some, None, IsTrue}
+use Rattle.std.specs.Prelude.{ℕ, ◌+◌, ◌^◌, ◌<◌, Bool, true, false, not, ◌&&◌, List, [], ◌∷◌, map}
+use Rattle.std.specs.Prelude.{length, eqb, leb, ltb, max, sum, slice_get, Option, Some, None, IsTrue}
 use Rattle.std.specs.List.{AllByRecursion, list_all}
 use Rattle.fof_models.specs.declared.formula.FofTerm.{FofTerm}
 use Rattle.fof_models.specs.declared.formula.FofTerm.TheOpen.{FofTerm-F}
@@ -25,39 +26,40 @@ is_symbol (Some symbol) predicate arity = is_of_kind symbol predicate && eqb sym
 
 -- one layer of a sound term, whose parts are tests of the number of binders around
 abbrev pub is_term_step : List FofSymbol → FofTerm-F (ℕ → Bool) → ℕ → Bool
-is_term_step signature (term.Var i) depth = ltb i depth
-is_term_step signature (term.Apply f arguments) depth =
+is_term_step signature (term.Var i) binders = ltb i binders
+is_term_step signature (term.Apply f arguments) binders =
     is_symbol (slice_get signature f) false (length arguments)
-    && list_all (λ argument. argument depth) arguments
+    && list_all (λ argument. argument binders) arguments
 
 -- a term under so many binders
 unfoldable pub is_term : List FofSymbol → FofTerm → ℕ → Bool
 is_term signature = fold-FofTerm (ℕ → Bool) (is_term_step signature)
 
 abbrev pub are_terms : List FofSymbol → List FofTerm → ℕ → Bool
-are_terms signature terms depth = list_all (λ t. is_term signature t depth) terms
+are_terms signature terms binders = list_all (λ t. is_term signature t binders) terms
 
 -- one layer of a formula in which indices, kinds, arities and variables are right
 abbrev pub is_formula_step : List FofSymbol → Fof-F (ℕ → Bool) → ℕ → Bool
-is_formula_step signature layer.True depth = true
-is_formula_step signature layer.False depth = true
-is_formula_step signature (layer.Atom p terms) depth =
-    is_symbol (slice_get signature p) true (length terms) && are_terms signature terms depth
-is_formula_step signature (layer.Equal left right) depth =
-    is_term signature left depth && is_term signature right depth
-is_formula_step signature (layer.Not a) depth = a depth
-is_formula_step signature (layer.And parts) depth = list_all (λ part. part depth) parts
-is_formula_step signature (layer.Or parts) depth = list_all (λ part. part depth) parts
-is_formula_step signature (layer.Implies a b) depth = a depth && b depth
-is_formula_step signature (layer.ForAll body) depth = body (depth + 1)
-is_formula_step signature (layer.Exists body) depth = body (depth + 1)
+is_formula_step signature layer.True binders = true
+is_formula_step signature layer.False binders = true
+is_formula_step signature (layer.Atom p terms) binders =
+    is_symbol (slice_get signature p) true (length terms) && are_terms signature terms binders
+is_formula_step signature (layer.Equal left right) binders =
+    is_term signature left binders && is_term signature right binders
+is_formula_step signature (layer.Not a) binders = a binders
+is_formula_step signature (layer.And parts) binders = list_all (λ part. part binders) parts
+is_formula_step signature (layer.Or parts) binders = list_all (λ part. part binders) parts
+is_formula_step signature (layer.Implies a b) binders = a binders && b binders
+is_formula_step signature (layer.ForAll body) binders = body (binders + 1)
+is_formula_step signature (layer.Exists body) binders = body (binders + 1)
 
 -- a formula under so many binders
 unfoldable pub is_formula : List FofSymbol → Fof → ℕ → Bool
 is_formula signature = fold-Fof (ℕ → Bool) (is_formula_step signature)
 
 abbrev pub are_formulas : List FofSymbol → List Fof → ℕ → Bool
-are_formulas signature formulas depth = list_all (λ part. is_formula signature part depth) formulas
+are_formulas signature formulas binders =
+    list_all (λ part. is_formula signature part binders) formulas
 
 -- one layer of the test that no list of parts is shorter than two
 abbrev pub has_pairs_step : Fof-F Bool → Bool
