@@ -255,3 +255,7 @@ applies_exactly scheme.GuardsLight normal typed =
     (λ applies. (λ asked. applies, refl), λ no_cause. no_cause.0 refl)
 applies_exactly scheme.TagsLight normal typed =
     (λ applies. (λ asked. applies, refl), λ no_cause. no_cause.0 refl)
+applies_exactly scheme.GuardsFeather normal typed =
+    (λ applies. (λ asked. applies, refl), λ no_cause. no_cause.0 refl)
+applies_exactly scheme.TagsFeather normal typed =
+    (λ applies. (λ asked. applies, refl), λ no_cause. no_cause.0 refl)

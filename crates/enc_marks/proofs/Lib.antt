@@ -10,6 +10,8 @@ pub mod Places
 pub mod Reading
 pub mod Symbols
 pub mod CoverCount
+pub mod ArgumentPlaces
+pub mod GroundArguments
 pub mod Guarded
 pub mod TypingAxioms
 pub mod Passing
@@ -30,4 +32,11 @@ pub mod MarkNumbers
 pub mod Sound
 pub mod WritableNames
 pub mod SortRows
+pub mod SortTagRows
+pub mod FeatherProblem
+pub mod FeatherGuards
+pub mod FeatherTags
 pub mod AppliesLaws
+pub mod PolymorphicNames
+pub mod Alike
+pub mod FreeByTable

@@ -5,11 +5,13 @@ use Rattle.fof_models.specs.declared.problem.FofSymbol.{FofSymbol}
 use Rattle.tf_core.specs.declared.signature.Symbol.{Symbol}
 use Rattle.tf_core.specs.declared.signature.Constructor.{Constructor}
 use Rattle.tf_core.specs.declared.normal.Normal.{Normal}
+use Rattle.tf_core.specs.declared.ty.Ty.{Ty}
+use Rattle.enc_marks.specs.declared.choices.Binding.{Binding}
 use Rattle.enc_marks.specs.declared.mark.Mark.{Mark}
 use Rattle.enc_marks.specs.declared.marked.Marked.{Marked}
 use Rattle.enc_marks.specs.Choices.{Choices}
 use Rattle.enc_marks.specs.Occurrence.{passing}
-use Rattle.enc_marks.specs.Encoded.{MarkedSymbol, marked_symbol, marked_symbols, marked_constructor, marked_constructors}
+use Rattle.enc_marks.specs.Encoded.{MarkedSymbol, marked_symbol, marked_symbols, marked_constructor, marked_constructors, sort_mark, sort_marks}
 use Rattle.enc_marks.specs.Calls.Marked.{Holds, MarksAdded}
 
 pub append-nothing : {A : Type 0} (items : List A) → items ++ [] ≡ items
@@ -143,6 +145,27 @@ constructors-more test normal at constructors i d within =
     (sym (marked_constructors-numbered normal 0 (take i constructors)))
     ∙ ap (λ n. passing test at (marked_constructors normal 0 (take i constructors))
     ++ cond (test (at + i)) (marked_constructor normal n (get_or constructors i d) ∷ []) []) same
+
+pub sort_marks-numbered : (normal : Normal) (binding : Binding) (s : ℕ) (sorts : List Ty) →
+    sort_marks normal binding s sorts ≡ numbered (sort_mark normal binding) s sorts
+sort_marks-numbered normal binding s [] = refl
+sort_marks-numbered normal binding s (sort ∷ sorts) =
+    ap (λ rest. sort_mark normal binding s sort ∷ rest) (sort_marks-numbered normal binding (s + 1) sorts)
+
+pub sort_marks-more : (test : ℕ → Bool) (normal : Normal) (binding : Binding) (at : ℕ)
+    (sorts : List Ty) (s : ℕ) (d : Ty) → s < length sorts →
+    passing test at (sort_marks normal binding 0 (take (s + 1) sorts))
+    ≡ passing test at (sort_marks normal binding 0 (take s sorts))
+    ++ cond (test (at + s)) (sort_mark normal binding s (get_or sorts s d) ∷ []) []
+sort_marks-more test normal binding at sorts s d within =
+    let same : 0 + s ≡ s = omega arith in
+    ap (passing test at) (sort_marks-numbered normal binding 0 (take (s + 1) sorts))
+    ∙ numbered-more test (sort_mark normal binding) at 0 sorts s d within
+    ∙ ap (λ (front : List MarkedSymbol). passing test at front
+    ++ cond (test (at + s)) (sort_mark normal binding (0 + s) (get_or sorts s d) ∷ []) [])
+    (sym (sort_marks-numbered normal binding 0 (take s sorts)))
+    ∙ ap (λ n. passing test at (sort_marks normal binding 0 (take s sorts))
+    ++ cond (test (at + s)) (sort_mark normal binding n (get_or sorts s d) ∷ []) []) same
 
 -- all marked symbols in three parts
 pub passing-parts : (test : ℕ → Bool) (c : Choices) (normal : Normal) (own : List MarkedSymbol) →

@@ -60,7 +60,7 @@ abbrev g : Signature
 g = universal.signature
 
 -- the guard of a has this number among all marked symbols
-guard_of_a : k.sort sort_a ≡ 6
+pub guard_of_a : k.sort sort_a ≡ 6
 guard_of_a =
     ap (λ types. 5 + position_or_len (same_type sort_a) types) universal_sorts
     ∙ ap (λ b. 5 + cond (not b) (1 + position_or_len (same_type sort_a) (sort_a ∷ [])) 0)
@@ -105,7 +105,7 @@ differ-body =
     ∙ ap (λ (t : Bare). fof.Not (fof.Equal (term.Apply 0 []) t.term))
     (bare-apply choices k g 0 [] 1 [] [])
 
-name_of_a : flat_name universal sort_a ≡ codes "a"
+pub name_of_a : flat_name universal sort_a ≡ codes "a"
 name_of_a = flat_name-apply universal 1 []
 
 abbrev last_of_a : FofFormula
@@ -159,7 +159,7 @@ occurs-of_a m guard =
     occurs-atom m guard (term.Var 0 ∷ [])
     ∙ ap (λ b. eqb m guard || (b || false)) (occurs_in_term-variable m 0)
 
-occurs-differ : (m : ℕ) →
+pub occurs-differ : (m : ℕ) →
     occurs m constants_differ ≡ ((eqb m 0 || false) || (eqb m 1 || false))
 occurs-differ m =
     occurs-not m (fof.Equal (term.Apply 0 []) (term.Apply 1 []))
@@ -218,7 +218,7 @@ renumber-of_a number guard =
     renumber-atom number guard (term.Var 0 ∷ [])
     ∙ ap (λ t. fof.Atom (number guard) (t ∷ [])) (renumber_term-variable number 0)
 
-renumber-differ : (number : ℕ → ℕ) → renumber number constants_differ
+pub renumber-differ : (number : ℕ → ℕ) → renumber number constants_differ
     ≡ fof.Not (fof.Equal (term.Apply (number 0) []) (term.Apply (number 1) []))
 renumber-differ number =
     renumber-not number (fof.Equal (term.Apply 0 []) (term.Apply 1 []))

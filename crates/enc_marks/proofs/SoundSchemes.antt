@@ -111,14 +111,14 @@ scheme-fits scheme.GuardsLight normal applies =
     applies
 scheme-fits scheme.TagsLight normal applies =
     tags-fit (tags_light (is_free normal)) normal (λ symbol. refl) refl applies
+scheme-fits scheme.GuardsFeather normal applies =
+    guards-fit (guards_feather (is_free normal)) normal (λ symbol. refl) (λ position kind ty. refl)
+    applies
+scheme-fits scheme.TagsFeather normal applies =
+    tags-fit (tags_feather (is_free normal)) normal (λ symbol. refl) refl applies
 
 pub schemes_fitting : SchemesFit
 schemes_fitting = record {
   schemes = scheme-fits;
-  guards_feather_fits = λ normal monomorphic.
-      guards-fit (guards_feather (is_free normal)) normal (λ symbol. refl)
-      (λ position kind ty. refl) monomorphic;
-  tags_feather_fits = λ normal monomorphic.
-      tags-fit (tags_feather (is_free normal)) normal (λ symbol. refl) refl monomorphic;
   by_type = by_type-fits;
 }

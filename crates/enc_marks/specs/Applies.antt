@@ -27,6 +27,8 @@ Applies scheme.Args normal = naked_places normal ≡ []
 Applies scheme.Erase normal = IsTrue (is_monomorphic normal) × AreFree normal
 Applies scheme.GuardsLight normal = IsTrue (is_monomorphic normal)
 Applies scheme.TagsLight normal = IsTrue (is_monomorphic normal)
+Applies scheme.GuardsFeather normal = IsTrue (is_monomorphic normal)
+Applies scheme.TagsFeather normal = IsTrue (is_monomorphic normal)
 
 -- whether a scheme asks for a problem without type variables
 abbrev pub asks_monomorphic : Scheme → Bool
@@ -38,6 +40,8 @@ asks_monomorphic scheme.Args = false
 asks_monomorphic scheme.Erase = true
 asks_monomorphic scheme.GuardsLight = true
 asks_monomorphic scheme.TagsLight = true
+asks_monomorphic scheme.GuardsFeather = true
+asks_monomorphic scheme.TagsFeather = true
 
 -- the item itself, or else another
 abbrev pub or_else : {A : Type 0} → Option A → Option A → Option A
@@ -69,6 +73,8 @@ refused_place scheme.Args normal = first_naked normal
 refused_place scheme.Erase normal = first_not_free normal
 refused_place scheme.GuardsLight normal = None
 refused_place scheme.TagsLight normal = None
+refused_place scheme.GuardsFeather normal = None
+refused_place scheme.TagsFeather normal = None
 
 -- The translation is refused: the scheme asks for a problem without type variables, and this is the
 -- first name that has one; or it doesn't ask or there are none, and this is the first place that it

@@ -1,6 +1,6 @@
 -- What translations promise, as laws on calls that do nothing: an encoded problem is well formed,
 -- only marked symbols occur in it, and its names can be written where the normal problem's can.
-use Rattle.std.specs.Prelude.{ℕ, ◌<◌, ◌≤◌, ◌≡◌, Bool, List, length, take, IsTrue}
+use Rattle.std.specs.Prelude.{ℕ, ◌<◌, ◌≤◌, ◌≡◌, length, take, IsTrue}
 use Rattle.std.specs.List.{AllByRecursion}
 use Rattle.enc_base.specs.Names.{IsWritable}
 use Rattle.tf_core.specs.declared.ty.Ty.{Ty}
@@ -16,13 +16,11 @@ use Rattle.fof_models.specs.declared.problem.FofProblem.{FofProblem}
 use Rattle.fof_models.specs.Sound.{IsSound}
 use Rattle.tf_naked.specs.declared.position.Position.{Position}
 use Rattle.tf_naked.specs.declared.position.Kind.{Kind}
-use Rattle.tf_naked.specs.Naked.{is_free}
 use Rattle.enc_marks.specs.declared.choices.Marking.TheVariants.{ByType, BySort}
 use Rattle.enc_marks.specs.declared.choices.Binding.TheVariants.{ByTag}
 use Rattle.enc_marks.specs.declared.scheme.Scheme.{Scheme}
 use Rattle.enc_marks.specs.Choices.{Choices}
-use Rattle.enc_marks.specs.Schemes.{guards, tags, guards_cover, tags_cover, args, guards_feather}
-use Rattle.enc_marks.specs.Schemes.{tags_feather, choices_of}
+use Rattle.enc_marks.specs.Schemes.{guards, tags, guards_cover, tags_cover, args, choices_of}
 use Rattle.enc_marks.specs.Applies.{Applies}
 use Rattle.enc_marks.specs.Translation.{type_term}
 use Rattle.enc_marks.specs.Occurrence.{count_below, occurs_in_term, renumber_term}
@@ -54,15 +52,10 @@ pub record TypeSchemesAreByType : Type 0 where
   pub tags_cover_are : IsByType tags_cover
   pub args_are : IsByType args
 
--- A scheme's choices fit each problem that it applies to; those of the feather schemes each problem
--- without type variables.
+-- A scheme's choices fit each problem that it applies to, and choices by type each problem.
 pub record SchemesFit : Type 0 where
   pub schemes : (scheme : Scheme) (normal : Normal) → Applies scheme normal →
       Fit (choices_of scheme normal) normal
-  pub guards_feather_fits : (normal : Normal) → IsTrue (is_monomorphic normal) →
-      Fit (guards_feather (is_free normal)) normal
-  pub tags_feather_fits : (normal : Normal) → IsTrue (is_monomorphic normal) →
-      Fit (tags_feather (is_free normal)) normal
   pub by_type : (c : Choices) (normal : Normal) → IsByType c → Fit c normal
 
 -- An encoded problem is well formed and within the bounds of counting where the normal problem is.

@@ -8,8 +8,10 @@ pub mod Encoded
 pub mod Marks
 pub mod Calls
 pub mod Applies
+pub mod FreeByTable
 pub mod AppliesLaws
 pub mod Rows
 pub mod Laws
 pub mod RefusalNumbers
 pub mod SortRows
+pub mod FeatherRows

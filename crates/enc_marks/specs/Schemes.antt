@@ -185,3 +185,5 @@ choices_of scheme.Args normal = args
 choices_of scheme.Erase normal = erase
 choices_of scheme.GuardsLight normal = guards_light (is_free normal)
 choices_of scheme.TagsLight normal = tags_light (is_free normal)
+choices_of scheme.GuardsFeather normal = guards_feather (is_free normal)
+choices_of scheme.TagsFeather normal = tags_feather (is_free normal)

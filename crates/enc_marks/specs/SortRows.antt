@@ -1,6 +1,7 @@
 -- Worked rows of schemes whose marks are of sorts: a problem with sorts a and b, of which only b is
--- free, under guards at variables of sorts that aren't free.
+-- free, under guards at variables of sorts that aren't free, and under tags at terms of these.
 use Rattle.std.specs.Prelude.{ℕ, true, false, [], ◌∷◌, codes}
+use Rattle.fof_models.specs.declared.formula.FofTerm.{FofTerm}
 use Rattle.fof_models.specs.declared.formula.FofTerm.TheVariants as term
 use Rattle.fof_models.specs.declared.formula.Fof.{Fof}
 use Rattle.fof_models.specs.declared.formula.Fof.TheVariants as fof
@@ -37,4 +38,24 @@ universal_guarded = record {
         ∷ record { name = codes "inhabitation_a"; role = Axiom; body = some_of_a 2 } ∷ [];
   };
   marks = mark.Symbol 0 ∷ mark.Symbol 1 ∷ mark.SortGuard 1 ∷ [];
+}
+
+-- `as_a(X)` of the i-th variable, under the number of the tag of a
+abbrev pub as_of_a : ℕ → ℕ → FofTerm
+as_of_a tag i = term.Apply tag (term.Var i ∷ [])
+
+-- `![X]: ![Y]: as_a(X) = as_a(Y)`
+abbrev pub all_tagged_equal : ℕ → Fof
+all_tagged_equal tag = fof.ForAll (fof.ForAll (fof.Equal (as_of_a tag 1) (as_of_a tag 0)))
+
+abbrev pub universal_tagged : Encoded
+universal_tagged = record {
+  problem = record {
+    signature = record { wanted = codes "c"; arity = 0; predicate = false }
+        ∷ record { wanted = codes "d"; arity = 0; predicate = false }
+        ∷ record { wanted = codes "as_a"; arity = 1; predicate = false } ∷ [];
+    formulas = record { name = codes "one"; role = Axiom; body = all_tagged_equal 2 }
+        ∷ record { name = codes "two"; role = Axiom; body = constants_differ } ∷ [];
+  };
+  marks = mark.Symbol 0 ∷ mark.Symbol 1 ∷ mark.SortTag 1 ∷ [];
 }

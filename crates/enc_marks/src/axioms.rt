@@ -1,12 +1,8 @@
 ghost use Rattle.std.specs.Prelude.{◌≡◌, ℕ, ◌+◌, ◌-◌, ◌∷◌, ◌++◌, [], List, cond, map, length, IfOk, OnOk, Some};
 ghost use Rattle.enc_marks.specs.Axioms as specs;
 ghost use Rattle.enc_marks.specs.Axioms.{own_types};
-ghost use Rattle.enc_marks.specs.Encoded.{all_numbers};
-ghost use Rattle.enc_marks.specs.Translation as translation;
 ghost use Rattle.enc_marks.specs.Translation.{selected, type_term};
-ghost use Rattle.enc_marks.specs.declared.choices.Marking.TheVariants.{ByType};
-ghost use Rattle.tf_core.specs.declared.ty.Ty.TheVariants as type;
-ghost use Rattle.enc_marks.specs.Calls.Writing.{IsShape, application_in, bind_in, last_in, premises_in, typing_axiom_in};
+ghost use Rattle.enc_marks.specs.Calls.Writing.{IsShape, application_in, bind_in, last_in, premises_in, tag_in, typing_axiom_in};
 
 use crate::choices::{Binding, Choices};
 use crate::shape::Shape;
@@ -78,8 +74,8 @@ impl<'a, C: Choices> Writer<'a, C> {
         shape: &Shape,
         depth: u32,
     ) -> Result<FofTerm, NoMemory>
-        requires shape { IsShape (C.choices self.now.choices.now) (Some shape.now.symbol.now)
-            shape.now }
+        requires shape { IsShape (C.choices self.now.choices.now) self.now.types.normal.now
+            (Some shape.now.symbol.now) shape.now }
         ensures exact { IfOk result (λ made. made ≡ application_in (C.choices self.now.choices.now)
             self.now.types.normal.now depth f shape.now.symbol.now) }
     {
@@ -119,8 +115,8 @@ impl<'a, C: Choices> Writer<'a, C> {
 
     // the premises of a typing axiom, of the variables of the nearest binders
     fn premises(&self, alloc: Global, shape: &Shape, depth: u32) -> Result<List<Fof>, NoMemory>
-        requires shape { IsShape (C.choices self.now.choices.now) (Some shape.now.symbol.now)
-            shape.now }
+        requires shape { IsShape (C.choices self.now.choices.now) self.now.types.normal.now
+            (Some shape.now.symbol.now) shape.now }
         ensures exact { IfOk result (λ made. made ≡ premises_in (C.choices self.now.choices.now)
             self.now.types.normal.now depth shape.now.covers.now shape.now.symbol.now.arguments
             (length
@@ -148,8 +144,8 @@ impl<'a, C: Choices> Writer<'a, C> {
         value: &Ty,
         depth: u32,
     ) -> Result<Fof, NoMemory>
-        requires shape { IsShape (C.choices self.now.choices.now) (Some shape.now.symbol.now)
-            shape.now }
+        requires shape { IsShape (C.choices self.now.choices.now) self.now.types.normal.now
+            (Some shape.now.symbol.now) shape.now }
         requires depth_is { depth ≡ shape.now.symbol.now.parameters + length
             shape.now.symbol.now.arguments }
         ensures exact { IfOk result (λ made. specs.closed depth made ≡ typing_axiom_in (C.choices
@@ -161,36 +157,35 @@ impl<'a, C: Choices> Writer<'a, C> {
         under(alloc, premises, conclusion)
     }
 
-    // some element is bound to the type of the outer quantifier
-    fn inhabitation(&self, alloc: Global) -> Result<Fof, NoMemory>
+    // some element is bound to the type
+    fn inhabitation(&self, alloc: Global, ty: &Ty, depth: u32) -> Result<Fof, NoMemory>
         ensures { IfOk result (λ made. made ≡ Fof.Exists (bind_in (C.choices self.now.choices.now)
-            self.now.types.normal.now 2 (type.Var 0) (FofTerm.Var 0))) }
+            self.now.types.normal.now depth ty.now (FofTerm.Var 0))) }
     {
-        let bound = self.bind(alloc, FofTerm::Var(0), &Ty::Var(0), 2)?;
+        let bound = self.bind(alloc, FofTerm::Var(0), ty, depth)?;
         Ok(Fof::Exists(Boxed::new(alloc, bound)?))
     }
 
-    // each element's tagged value is bound to the type of the outer quantifier
-    fn idempotence(&self, alloc: Global) -> Result<Fof, NoMemory>
+    // each element's tagged value is bound to the type
+    fn idempotence(&self, alloc: Global, ty: &Ty, depth: u32) -> Result<Fof, NoMemory>
         ensures { IfOk result (λ made. made ≡ Fof.ForAll (bind_in (C.choices self.now.choices.now)
-            self.now.types.normal.now 2 (type.Var 0) (translation.tag_by ByType (all_numbers
-            self.now.types.normal.now) 2 (type.Var 0) (FofTerm.Var 0)))) }
+            self.now.types.normal.now depth ty.now (tag_in (C.choices self.now.choices.now)
+            self.now.types.normal.now depth ty.now (FofTerm.Var 0)))) }
     {
-        let ty = self.types.type_term(alloc, &Ty::Var(0), 2)?;
-        let tagged = self.types.tag(alloc, ty, FofTerm::Var(0))?;
-        let bound = self.bind(alloc, tagged, &Ty::Var(0), 2)?;
+        let tagged = self.types.tag(alloc, FofTerm::Var(0), ty, depth)?;
+        let bound = self.bind(alloc, tagged, ty, depth)?;
         Ok(Fof::ForAll(Boxed::new(alloc, bound)?))
     }
 
-    /// The last axiom below the quantifier of its type.
-    pub fn last_axiom(&self, alloc: Global) -> Result<Fof, NoMemory>
-        ensures { IfOk result (λ made. specs.closed 1 made ≡ last_in (C.choices
-            self.now.choices.now)
-            self.now.types.normal.now) }
+    /// The last axiom of a type, under so many binders.
+    pub fn last_axiom(&self, alloc: Global, ty: &Ty, depth: u32) -> Result<Fof, NoMemory>
+        ensures { IfOk result (λ made. made ≡ last_in (C.choices self.now.choices.now)
+            self.now.types.normal.now depth ty.now) }
     {
+        let inner = in_32_bits(depth as usize, 1)?;
         match self.choices.binding() {
-            Binding::ByGuard => self.inhabitation(alloc),
-            Binding::ByTag => self.idempotence(alloc),
+            Binding::ByGuard => self.inhabitation(alloc, ty, inner),
+            Binding::ByTag => self.idempotence(alloc, ty, inner),
         }
     }
 }

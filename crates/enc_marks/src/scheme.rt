@@ -14,6 +14,8 @@ pub enum Scheme {
     Erase,
     GuardsLight,
     TagsLight,
+    GuardsFeather,
+    TagsFeather,
 }
 
 impl Scheme {
@@ -30,6 +32,8 @@ impl Scheme {
             Scheme::Erase => Ok(Scheme::Erase),
             Scheme::GuardsLight => Ok(Scheme::GuardsLight),
             Scheme::TagsLight => Ok(Scheme::TagsLight),
+            Scheme::GuardsFeather => Ok(Scheme::GuardsFeather),
+            Scheme::TagsFeather => Ok(Scheme::TagsFeather),
         }
     }
 
@@ -46,6 +50,8 @@ impl Scheme {
             (Scheme::Erase, Scheme::Erase) => true,
             (Scheme::GuardsLight, Scheme::GuardsLight) => true,
             (Scheme::TagsLight, Scheme::TagsLight) => true,
+            (Scheme::GuardsFeather, Scheme::GuardsFeather) => true,
+            (Scheme::TagsFeather, Scheme::TagsFeather) => true,
             _ => false,
         }
     }

@@ -1,3 +1,4 @@
+use crate::slot::Slot;
 use tf_core::Symbol;
 
 /// A symbol, with what was found of it once.
@@ -8,4 +9,6 @@ pub struct Shape<'a> {
     pub covers: &'a [bool],
     /// For each parameter, whether the type argument is written; those past the end aren't.
     pub kept: &'a [bool],
+    /// What was found of its argument places.
+    pub slots: &'a [Slot],
 }

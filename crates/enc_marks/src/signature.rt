@@ -3,7 +3,9 @@ ghost use Rattle.enc_marks.specs.Choices.{Choices};
 ghost use Rattle.enc_marks.specs.Encoded as specs;
 ghost use Rattle.enc_marks.specs.Calls.Flags.{is_set};
 ghost use Rattle.enc_marks.specs.Calls.Marked.{Holds, MarksAdded};
-ghost use Rattle.enc_marks.specs.Names.{wanted_constructor};
+ghost use Rattle.enc_marks.specs.Calls.Slots.{marking_of};
+ghost use Rattle.tf_core.specs.declared.normal.Normal.{Normal};
+ghost use Rattle.enc_marks.specs.Names.{wanted_constructor, wanted_mark};
 ghost use Rattle.enc_marks.specs.Occurrence.{passing};
 ghost use Rattle.enc_marks.specs.Calls.Writing.{IsShape, marked_in};
 
@@ -13,15 +15,16 @@ use crate::mark::Mark;
 use crate::marked::Marked;
 use crate::shape::Shape;
 use crate::tables::count_raised;
+use crate::type_marks::Marks;
 use crate::type_writer::{TypeWriter, in_32_bits};
 use crate::writer::Writer;
 use enc_base::{List, Name, NoMemory};
 use fof_models::FofSymbol;
 use std::alloc::Global;
-use tf_core::{Constructor, Normal};
+use tf_core::{Constructor, Normal, Ty};
 
-// what a constructor wants to be called
-fn constructor_name(
+/// What a constructor wants to be called.
+pub fn constructor_name(
     alloc: Global,
     normal: &Normal,
     i: usize,
@@ -66,8 +69,8 @@ impl Marked {
 
 // a source symbol, as a symbol of the untyped problem
 fn symbol_of(alloc: Global, shape: &Shape) -> Result<FofSymbol, NoMemory>
-    ensures { IfOk result (λ made. (c : Choices) → IsShape c (Some shape.now.symbol.now) shape.now
-        → (f : ℕ) →
+    ensures { IfOk result (λ made. (c : Choices) (normal : Normal) →
+        IsShape c normal (Some shape.now.symbol.now) shape.now → (f : ℕ) →
         made ≡ (specs.marked_symbol c f shape.now.symbol.now).symbol) }
 {
     let count = shape.symbol.arguments.as_slice().len();
@@ -78,22 +81,34 @@ fn symbol_of(alloc: Global, shape: &Shape) -> Result<FofSymbol, NoMemory>
     })
 }
 
+// what the guard or tag of all types is called, and how the names of those of sorts begin
+fn mark_word(binding: Binding) -> &'static str
+    ensures { result.now ≡ wanted_mark binding }
+{
+    match binding {
+        Binding::ByGuard => "is",
+        Binding::ByTag => "as",
+    }
+}
+
+fn is_guard(binding: Binding) -> bool
+    ensures { result ≡ specs.is_guard binding }
+{
+    match binding {
+        Binding::ByGuard => true,
+        Binding::ByTag => false,
+    }
+}
+
 // the guard or tag of all types
 fn shared_of(alloc: Global, binding: Binding) -> Result<FofSymbol, NoMemory>
     ensures { IfOk result (λ made. made ≡ (specs.shared_mark binding).symbol) }
 {
-    match binding {
-        Binding::ByGuard => Ok(FofSymbol {
-            wanted: Name::from_slice(alloc, b"is")?,
-            arity: 2,
-            predicate: true,
-        }),
-        Binding::ByTag => Ok(FofSymbol {
-            wanted: Name::from_slice(alloc, b"as")?,
-            arity: 2,
-            predicate: false,
-        }),
-    }
+    Ok(FofSymbol {
+        wanted: Name::from_slice(alloc, mark_word(binding).as_bytes())?,
+        arity: 2,
+        predicate: is_guard(binding),
+    })
 }
 
 fn mark_of(binding: Binding) -> Mark
@@ -102,6 +117,15 @@ fn mark_of(binding: Binding) -> Mark
     match binding {
         Binding::ByGuard => Mark::Guard,
         Binding::ByTag => Mark::Tag,
+    }
+}
+
+fn sort_mark_of(binding: Binding, s: u32) -> Mark
+    ensures { result ≡ specs.sort_mark_of binding s }
+{
+    match binding {
+        Binding::ByGuard => Mark::SortGuard(s),
+        Binding::ByTag => Mark::SortTag(s),
     }
 }
 
@@ -151,8 +175,8 @@ impl<'a> TypeWriter<'a> {
         Ok(())
     }
 
-    /// Adds the guard or tag of all types, where it occurs.
-    pub fn add_shared(
+    // adds the guard or tag of all types, where it occurs
+    fn add_shared(
         &self,
         alloc: Global,
         marked: &mut Marked,
@@ -169,6 +193,76 @@ impl<'a> TypeWriter<'a> {
             return Ok(());
         }
         marked.push(mark_of(binding), shared_of(alloc, binding)?)
+    }
+
+    // adds the guard or tag of the s-th sort, where it occurs
+    fn add_sort_mark(
+        &self,
+        alloc: Global,
+        marked: &mut Marked,
+        occurs: bool,
+        binding: Binding,
+        s: usize,
+        sort: &Ty,
+    ) -> Result<(), NoMemory>
+        ensures { OnOk result (MarksAdded marked.old marked.new (cond occurs (specs.sort_mark
+            self.now.normal.now binding s sort.now ∷ []) [])) }
+    {
+        if !occurs {
+            return Ok(());
+        }
+        let mark = sort_mark_of(binding, in_32_bits(s, 0)?);
+        let made = FofSymbol {
+            wanted: self.name_of_sort(alloc, mark_word(binding).as_bytes(), sort)?,
+            arity: 1,
+            predicate: is_guard(binding),
+        };
+        marked.push(mark, made)
+    }
+
+    // adds those of sorts that occur
+    fn add_sort_marks(
+        &self,
+        alloc: Global,
+        marked: &mut Marked,
+        occurring: &Occurring,
+        binding: Binding,
+        sorts: &[Ty],
+    ) -> Result<(), NoMemory>
+        ensures { OnOk result (MarksAdded marked.old marked.new (passing (is_set occurring.now)
+            (length
+            self.now.normal.now.signature.symbols + length
+            self.now.normal.now.signature.constructors)
+            (specs.sort_marks self.now.normal.now binding 0 sorts.now))) }
+    {
+        let first = self.shared()? as usize;
+        for (s, sort) in sorts.iter().enumerate() {
+            let at = in_32_bits(first, s)? as usize;
+            self.add_sort_mark(alloc, marked, occurring.has(at), binding, s, sort)?;
+        }
+        Ok(())
+    }
+
+    /// Adds the guards or tags that occur.
+    pub fn add_own(
+        &self,
+        alloc: Global,
+        marked: &mut Marked,
+        occurring: &Occurring,
+        binding: Binding,
+    ) -> Result<(), NoMemory>
+        ensures { OnOk result (MarksAdded marked.old marked.new (passing (is_set occurring.now)
+            (length
+            self.now.normal.now.signature.symbols + length
+            self.now.normal.now.signature.constructors)
+            (specs.own_marks self.now.normal.now binding (marking_of self.now.marks)))) }
+    {
+        match self.marks {
+            Marks::Shared => self.add_shared(alloc, marked, occurring, binding),
+            Marks::Sorts(table) => {
+                self.add_sort_marks(alloc, marked, occurring, binding, table.as_slice())
+            }
+        }
     }
 }
 
@@ -221,8 +315,7 @@ impl<'a, C: Choices> Writer<'a, C> {
         self.add_symbols(alloc, &mut marked, occurring)?;
         self.types.add_constructors(alloc, &mut marked, occurring)?;
         let binding = self.choices.binding();
-        self.types
-            .add_shared(alloc, &mut marked, occurring, binding)?;
+        self.types.add_own(alloc, &mut marked, occurring, binding)?;
         Ok(marked)
     }
 }

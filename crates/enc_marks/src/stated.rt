@@ -1,8 +1,10 @@
 ghost use Rattle.std.specs.Prelude.{◌≡◌, ◌++◌, ◌∷◌, [], List, slice_get, IfOk, OnOk, Some};
+ghost use Rattle.fof_models.specs.declared.formula.Fof.TheVariants.{ForAll};
+ghost use Rattle.tf_core.specs.declared.ty.Ty.TheVariants.{Var};
 ghost use Rattle.enc_marks.specs.Axioms.{typing_axiom};
 ghost use Rattle.enc_marks.specs.Encoded as specs;
 ghost use Rattle.enc_marks.specs.Encoded.{axiom_named, role_of};
-ghost use Rattle.enc_marks.specs.Names.{last_name, typing_name};
+ghost use Rattle.enc_marks.specs.Names.{last_name, sort_last_name, typing_name};
 ghost use Rattle.enc_marks.specs.Calls.Closures.{closure_of, closures};
 ghost use Rattle.enc_marks.specs.Calls.Writing.{IsShape, last_in, typing_axiom_in, typing_in};
 
@@ -11,6 +13,7 @@ use crate::kinds::Kinds;
 use crate::open_formula::OpenFormula;
 use crate::scope::Scope;
 use crate::shape::Shape;
+use crate::type_marks::Marks;
 use crate::type_writer::in_32_bits;
 use crate::writer::Writer;
 use enc_base::{List, Name, NoMemory};
@@ -40,12 +43,12 @@ fn role(negated: bool) -> FofRole
 }
 
 // what the last axiom is called
-fn axiom_name(alloc: Global, binding: Binding) -> Result<Name, NoMemory>
-    ensures { IfOk result (λ name. name ≡ last_name binding) }
+fn axiom_name(binding: Binding) -> &'static str
+    ensures { result.now ≡ last_name binding }
 {
     match binding {
-        Binding::ByGuard => Name::from_slice(alloc, b"inhabitation"),
-        Binding::ByTag => Name::from_slice(alloc, b"tag_idempotence"),
+        Binding::ByGuard => "inhabitation",
+        Binding::ByTag => "tag_idempotence",
     }
 }
 
@@ -77,8 +80,8 @@ impl<'a, C: Choices> Writer<'a, C> {
         shape: &Shape,
         value: &Ty,
     ) -> Result<OpenFormula, NoMemory>
-        requires shape { IsShape (C.choices self.now.choices.now) (Some shape.now.symbol.now)
-            shape.now }
+        requires shape { IsShape (C.choices self.now.choices.now) self.now.types.normal.now
+            (Some shape.now.symbol.now) shape.now }
         ensures exact { IfOk result (λ made. closure_of made ≡ axiom_named (typing_name
             shape.now.symbol.now.name) (typing_axiom_in (C.choices self.now.choices.now)
             self.now.types.normal.now f shape.now.symbol.now value.now)) }
@@ -102,8 +105,8 @@ impl<'a, C: Choices> Writer<'a, C> {
         shape: &Shape,
         value: &Ty,
     ) -> Result<(), NoMemory>
-        requires shape { IsShape (C.choices self.now.choices.now) (Some shape.now.symbol.now)
-            shape.now }
+        requires shape { IsShape (C.choices self.now.choices.now) self.now.types.normal.now
+            (Some shape.now.symbol.now) shape.now }
         ensures exact { OnOk result (closures made.new ≡ closures made.old ++ specs.typing_of
             (C.choices
             self.now.choices.now) self.now.types.normal.now f shape.now.symbol.now (Some
@@ -148,31 +151,92 @@ impl<'a, C: Choices> Writer<'a, C> {
         Ok(())
     }
 
-    fn last(&self, alloc: Global) -> Result<OpenFormula, NoMemory>
+    // the last axiom of all types
+    fn last_of_types(&self, alloc: Global) -> Result<OpenFormula, NoMemory>
         ensures { IfOk result (λ made. closure_of made ≡ axiom_named (last_name (C.choices
-            self.now.choices.now).binding) (last_in (C.choices self.now.choices.now)
-            self.now.types.normal.now)) }
+            self.now.choices.now).binding) (ForAll (last_in (C.choices self.now.choices.now)
+            self.now.types.normal.now 1 (Var 0)))) }
     {
+        let name = axiom_name(self.choices.binding());
         Ok(OpenFormula {
-            name: axiom_name(alloc, self.choices.binding())?,
+            name: Name::from_slice(alloc, name.as_bytes())?,
             role: FofRole::Axiom,
             binders: 1,
-            body: self.last_axiom(alloc)?,
+            body: self.last_axiom(alloc, &Ty::Var(0), 1)?,
         })
     }
 
-    // adds the last axiom, where there is one
-    fn add_last(&self, alloc: Global, made: &mut List<OpenFormula>) -> Result<(), NoMemory>
+    // adds it, where there is one
+    fn add_last_of_types(&self, alloc: Global, made: &mut List<OpenFormula>) -> Result<(), NoMemory>
         ensures { OnOk result (closures made.new ≡ closures made.old ++ specs.type_axioms (C.choices
             self.now.choices.now) self.now.types.normal.now) }
     {
         if self.choices.last(&Ty::Var(0)) {
-            made.push(self.last(alloc)?)?;
+            made.push(self.last_of_types(alloc)?)?;
         }
         Ok(())
     }
 
-    /// The formulas, the typing axioms and the last axiom, each below its outermost quantifiers.
+    // the last axiom of a sort
+    fn last_of_sort(&self, alloc: Global, sort: &Ty) -> Result<OpenFormula, NoMemory>
+        ensures { IfOk result (λ made. closure_of made ≡ axiom_named (sort_last_name
+            self.now.types.normal.now (C.choices self.now.choices.now).binding sort.now) (last_in
+            (C.choices self.now.choices.now) self.now.types.normal.now 0 sort.now)) }
+    {
+        let name = axiom_name(self.choices.binding());
+        Ok(OpenFormula {
+            name: self.types.name_of_sort(alloc, name.as_bytes(), sort)?,
+            role: FofRole::Axiom,
+            binders: 0,
+            body: self.last_axiom(alloc, sort, 0)?,
+        })
+    }
+
+    // adds it, where there is one
+    fn add_last_of_sort(
+        &self,
+        alloc: Global,
+        made: &mut List<OpenFormula>,
+        sort: &Ty,
+    ) -> Result<(), NoMemory>
+        ensures { OnOk result (closures made.new ≡ closures made.old ++ specs.sort_axioms (C.choices
+            self.now.choices.now) self.now.types.normal.now (sort.now ∷ [])) }
+    {
+        if self.choices.last(sort) {
+            made.push(self.last_of_sort(alloc, sort)?)?;
+        }
+        Ok(())
+    }
+
+    // adds those of sorts
+    fn add_last_of_sorts(
+        &self,
+        alloc: Global,
+        made: &mut List<OpenFormula>,
+        sorts: &[Ty],
+    ) -> Result<(), NoMemory>
+        ensures { OnOk result (closures made.new ≡ closures made.old ++ specs.sort_axioms (C.choices
+            self.now.choices.now) self.now.types.normal.now sorts.now) }
+    {
+        for sort in sorts {
+            self.add_last_of_sort(alloc, made, sort)?;
+        }
+        Ok(())
+    }
+
+    // adds the last axioms
+    fn add_last(&self, alloc: Global, made: &mut List<OpenFormula>) -> Result<(), NoMemory>
+        ensures { OnOk result (closures made.new ≡ closures made.old ++ specs.last_axioms (C.choices
+            self.now.choices.now) self.now.types.normal.now (C.choices
+            self.now.choices.now).marking) }
+    {
+        match self.types.marks {
+            Marks::Shared => self.add_last_of_types(alloc, made),
+            Marks::Sorts(table) => self.add_last_of_sorts(alloc, made, table.as_slice()),
+        }
+    }
+
+    /// The formulas, the typing axioms and the last axioms, each below its outermost quantifiers.
     pub fn translation(&self, alloc: Global) -> Result<List<OpenFormula>, NoMemory>
         ensures { IfOk result (λ made. closures made ≡ specs.translation (C.choices
             self.now.choices.now) self.now.types.normal.now) }

@@ -2,11 +2,13 @@ ghost use Rattle.std.specs.Prelude.{◌≡◌, ◌++◌, ◌∷◌, [], List, ma
 ghost use Rattle.tf_core.specs.Types.{instantiate};
 ghost use Rattle.tf_naked.specs.declared.position.Position.TheVariants.{Argument};
 ghost use Rattle.enc_marks.specs.Translation.{selected};
+ghost use Rattle.enc_marks.specs.Calls.Slots.{IsGround, slot_in};
 ghost use Rattle.enc_marks.specs.Calls.Writing.{IsShape, arguments_in, bare_in, placed_in, type_term_in};
 
 use crate::choices::Choices;
 use crate::kinds::Kinds;
 use crate::shape::Shape;
+use crate::slot::{Slot, slot_at};
 use crate::type_writer::TypeWriter;
 use crate::writer::Writer;
 use enc_base::{List, NoMemory};
@@ -121,8 +123,8 @@ impl<'a, C: Choices> Writer<'a, C> {
         depth: u32,
         kinds: &Kinds,
     ) -> Result<List<FofTerm>, NoMemory>
-        requires shape { IsShape (C.choices self.now.choices.now) (Some shape.now.symbol.now)
-            shape.now }
+        requires shape { IsShape (C.choices self.now.choices.now) self.now.types.normal.now
+            (Some shape.now.symbol.now) shape.now }
         ensures exact { IfOk result (λ made. made ≡ arguments_in (C.choices self.now.choices.now)
             self.now.types.normal.now depth kinds.now (Some shape.now.symbol.now) types.now
             terms.now) }
@@ -131,8 +133,8 @@ impl<'a, C: Choices> Writer<'a, C> {
         let declared = shape.symbol.arguments.as_slice();
         let count = declared.len().min(terms.len());
         for i in 0..count {
-            let cover = flag_at(shape.covers, i);
-            let term = self.argument(alloc, &terms[i], cover, &declared[i], types, depth, kinds)?;
+            let slot = slot_at(shape.slots, i);
+            let term = self.argument(alloc, &terms[i], &slot, &declared[i], types, depth, kinds)?;
             made.push(term)?;
         }
         Ok(made)
@@ -144,50 +146,47 @@ impl<'a, C: Choices> Writer<'a, C> {
         &self,
         alloc: Global,
         term: &Term,
-        cover: bool,
+        slot: &Slot,
         ty: &Ty,
         types: &[Ty],
         depth: u32,
         kinds: &Kinds,
     ) -> Result<FofTerm, NoMemory>
-        ensures { IfOk result (λ made. made ≡ placed_in (C.choices self.now.choices.now)
-            self.now.types.normal.now depth (Argument cover) (instantiate types.now ty.now) (bare_in
-            (C.choices self.now.choices.now) self.now.types.normal.now depth kinds.now term.now)) }
+        ensures { IfOk result (λ made. IsGround (C.choices self.now.choices.now).marking ty.now →
+            slot.now ≡ slot_in (C.choices self.now.choices.now) self.now.types.normal.now
+            slot.now.cover ty.now → made ≡ placed_in (C.choices self.now.choices.now)
+            self.now.types.normal.now depth (Argument slot.now.cover) (instantiate types.now ty.now)
+            (bare_in (C.choices self.now.choices.now) self.now.types.normal.now depth kinds.now
+            term.now)) }
     {
         let kind = kinds.kind_of(term);
         let made = self.term(alloc, term, depth, kinds)?;
-        self.placed(
-            alloc,
-            made,
-            Position::Argument(cover),
-            kind,
-            ty,
-            types,
-            depth,
-        )
+        self.placed(alloc, made, slot, kind, ty, types, depth)
     }
 
-    // a term of an instance of a type in its position, with its tag where it has one there
+    // A term of an instance of the type of an argument place, with its tag where it has one there.
+    // The instance isn't made: whether it has a tag is seen at the declared type.
     fn placed(
         &self,
         alloc: Global,
         term: FofTerm,
-        position: Position,
+        slot: &Slot,
         kind: Kind,
         ty: &Ty,
         types: &[Ty],
         depth: u32,
     ) -> Result<FofTerm, NoMemory>
-        ensures { IfOk result (λ made. made ≡ placed_in (C.choices self.now.choices.now)
-            self.now.types.normal.now depth position (instantiate types.now ty.now) (record {
+        ensures { IfOk result (λ made. IsGround (C.choices self.now.choices.now).marking ty.now →
+            slot.now ≡ slot_in (C.choices self.now.choices.now) self.now.types.normal.now
+            slot.now.cover ty.now → made ≡ placed_in (C.choices self.now.choices.now)
+            self.now.types.normal.now depth (Argument slot.now.cover) (instantiate types.now ty.now) (record {
               kind = kind;
               term = term;
             })) }
     {
-        // the instance isn't made: whether it has a tag is seen at the declared type
-        if self.choices.tagged(position, kind, ty) {
-            let ty = self.types.instance(alloc, ty, types, depth)?;
-            self.types.tag(alloc, ty, term)
+        if slot.is_tagged(kind) {
+            self.types
+                .tag_instance(alloc, term, slot.mark, ty, types, depth)
         } else {
             Ok(term)
         }
@@ -207,8 +206,7 @@ impl<'a, C: Choices> Writer<'a, C> {
             self.now.types.normal.now depth position ty.now (record { kind = kind; term = term })) }
     {
         if self.choices.tagged(position, kind, ty) {
-            let ty = self.types.type_term(alloc, ty, depth)?;
-            self.types.tag(alloc, ty, term)
+            self.types.tag(alloc, term, ty, depth)
         } else {
             Ok(term)
         }

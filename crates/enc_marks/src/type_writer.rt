@@ -1,22 +1,31 @@
 ghost use Rattle.std.specs.Prelude.{◌≡◌, ◌+◌, ◌-◌, ◌∷◌, [], map, get_or, IfOk};
+ghost use Rattle.std.specs.Coded.{Coded-set, codes};
+ghost use Rattle.tf_core.specs.contracts.ty.Ty as known;
 ghost use Rattle.tf_core.specs.declared.ty.Ty.TheVariants.{Var};
+ghost use Rattle.tf_core.specs.Sorts.{sorts};
 ghost use Rattle.tf_core.specs.Types.{instantiate};
-ghost use Rattle.enc_marks.specs.declared.choices.Marking.TheVariants.{ByType};
 ghost use Rattle.enc_marks.specs.Encoded.{all_numbers};
 ghost use Rattle.enc_marks.specs.Translation as specs;
+ghost use Rattle.enc_marks.specs.Calls.Slots.{AreMarks, listed, mark_number, marked_terms, marking_of};
 ghost use Rattle.enc_marks.specs.Calls.Writing.{type_term_in};
 
 use crate::choices::Binding;
+use crate::type_marks::Marks;
 use enc_base::{Boxed, List, NoMemory};
 use fof_models::{Fof, FofTerm};
 use std::alloc::Global;
 use tf_core::{Normal, Ty};
 
-/// Writes types as terms, and the one guard or tag of all types. The symbols have the numbers of
-/// all marked symbols, whether they occur or not.
+/// Writes types as terms, and their guards or tags. The symbols have the numbers of all marked
+/// symbols, whether they occur or not.
 #[derive(Clone, Copy)]
 pub struct TypeWriter<'a> {
     pub normal: &'a Normal,
+    pub marks: Marks<'a>,
+    ghost marks_are: { AreMarks normal.now marks } by { Coded-set (Prim.hlevel (
+      codes,
+      known.the_row.coded,
+    )) (listed normal.now marks) (sorts normal.now) },
 }
 
 /// A sum of counts. One beyond 32 bits, which no sound problem has, is taken for want of memory.
@@ -40,6 +49,15 @@ pub fn type_variable(i: u32, depth: u32) -> FofTerm
     ensures { result ≡ FofTerm.Var (depth - (i + 1)) }
 {
     FofTerm::Var(depth.saturating_sub(i).saturating_sub(1))
+}
+
+// a list of one
+fn single<T: Drop>(alloc: Global, item: T) -> Result<List<T>, NoMemory>
+    ensures { IfOk result (λ items. items ≡ item ∷ []) }
+{
+    let mut items = List::new(alloc);
+    items.push(item)?;
+    Ok(items)
 }
 
 /// A list of two.
@@ -149,32 +167,87 @@ impl<'a> TypeWriter<'a> {
         }
     }
 
-    /// The tag of a type and a term.
-    pub fn tag(&self, alloc: Global, ty: FofTerm, term: FofTerm) -> Result<FofTerm, NoMemory>
-        ensures { IfOk result (λ made. made ≡ FofTerm.Apply (all_numbers self.now.normal.now).shared
-            (ty ∷ term ∷ [])) }
+    /// The number of the guard or tag of a type.
+    pub fn mark(&self, ty: &Ty) -> Result<u32, NoMemory>
+        ensures { IfOk result (λ number. number ≡ mark_number (marking_of self.now.marks)
+            (all_numbers self.now.normal.now) ty.now) }
     {
-        Ok(FofTerm::Apply(self.shared()?, pair(alloc, ty, term)?))
+        match self.marks {
+            Marks::Shared => self.shared(),
+            Marks::Sorts(table) => in_32_bits(self.shared()? as usize, table.place(ty)),
+        }
+    }
+
+    // what the guard or tag of a type is applied to
+    fn marked(
+        &self,
+        alloc: Global,
+        term: FofTerm,
+        ty: &Ty,
+        depth: u32,
+    ) -> Result<List<FofTerm>, NoMemory>
+        ensures { IfOk result (λ terms. terms ≡ marked_terms (marking_of self.now.marks)
+            self.now.normal.now depth ty.now term) }
+    {
+        match self.marks {
+            Marks::Shared => pair(alloc, self.type_term(alloc, ty, depth)?, term),
+            Marks::Sorts(_) => single(alloc, term),
+        }
+    }
+
+    /// A term with the tag of its type.
+    pub fn tag(
+        &self,
+        alloc: Global,
+        term: FofTerm,
+        ty: &Ty,
+        depth: u32,
+    ) -> Result<FofTerm, NoMemory>
+        ensures { IfOk result (λ made. made ≡ specs.tag_by (marking_of self.now.marks) (all_numbers
+            self.now.normal.now) depth ty.now term) }
+    {
+        let number = self.mark(ty)?;
+        Ok(FofTerm::Apply(number, self.marked(alloc, term, ty, depth)?))
+    }
+
+    /// A term with the tag of this number, which is that of an instance of a type. The instance
+    /// isn't made.
+    pub fn tag_instance(
+        &self,
+        alloc: Global,
+        term: FofTerm,
+        number: u32,
+        ty: &Ty,
+        types: &[Ty],
+        depth: u32,
+    ) -> Result<FofTerm, NoMemory>
+        ensures { IfOk result (λ made. number ≡ mark_number (marking_of self.now.marks) (all_numbers
+            self.now.normal.now) (instantiate types.now ty.now) → made ≡ specs.tag_by (marking_of self.now.marks)
+            (all_numbers self.now.normal.now) depth (instantiate types.now ty.now) term) }
+    {
+        let terms = match self.marks {
+            Marks::Shared => pair(alloc, self.instance(alloc, ty, types, depth)?, term)?,
+            Marks::Sorts(_) => single(alloc, term)?,
+        };
+        Ok(FofTerm::Apply(number, terms))
     }
 
     // the guard of a term
     fn guard(&self, alloc: Global, term: FofTerm, ty: &Ty, depth: u32) -> Result<Fof, NoMemory>
-        ensures { IfOk result (λ made. made ≡ specs.guard_by ByType (all_numbers
-            self.now.normal.now)
-            depth ty.now term) }
+        ensures { IfOk result (λ made. made ≡ specs.guard_by (marking_of self.now.marks)
+            (all_numbers self.now.normal.now) depth ty.now term) }
     {
-        let ty = self.type_term(alloc, ty, depth)?;
-        Ok(Fof::Atom(self.shared()?, pair(alloc, ty, term)?))
+        let number = self.mark(ty)?;
+        Ok(Fof::Atom(number, self.marked(alloc, term, ty, depth)?))
     }
 
     // the equation of a term with its tag and of the term
     fn fixed(&self, alloc: Global, term: FofTerm, ty: &Ty, depth: u32) -> Result<Fof, NoMemory>
-        ensures { IfOk result (λ made. made ≡ Fof.Equal (specs.tag_by ByType (all_numbers
-            self.now.normal.now) depth ty.now term) term) }
+        ensures { IfOk result (λ made. made ≡ Fof.Equal (specs.tag_by (marking_of self.now.marks)
+            (all_numbers self.now.normal.now) depth ty.now term) term) }
     {
-        let ty = self.type_term(alloc, ty, depth)?;
         let same = term.copy(alloc)?;
-        Ok(Fof::Equal(self.tag(alloc, ty, same)?, term))
+        Ok(Fof::Equal(self.tag(alloc, same, ty, depth)?, term))
     }
 
     /// The formula that binds a term to a type.
@@ -186,8 +259,8 @@ impl<'a> TypeWriter<'a> {
         ty: &Ty,
         depth: u32,
     ) -> Result<Fof, NoMemory>
-        ensures { IfOk result (λ made. made ≡ specs.bind_by binding ByType (all_numbers
-            self.now.normal.now) depth ty.now term) }
+        ensures { IfOk result (λ made. made ≡ specs.bind_by binding (marking_of self.now.marks)
+            (all_numbers self.now.normal.now) depth ty.now term) }
     {
         match binding {
             Binding::ByGuard => self.guard(alloc, term, ty, depth),

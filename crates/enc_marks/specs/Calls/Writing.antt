@@ -2,7 +2,6 @@
 -- believed: the definitions that it cites say what is written.
 use Rattle.std.specs.Prelude.{ℕ, ◌≡◌, Bool, List, [], ◌∷◌, ◌++◌, cond, map, Option, Some, None}
 use Rattle.tf_core.specs.declared.ty.Ty.{Ty}
-use Rattle.tf_core.specs.declared.ty.Ty.TheVariants as type
 use Rattle.tf_core.specs.declared.term.Term.{Term}
 use Rattle.tf_core.specs.declared.nnf.Nnf.{Nnf}
 use Rattle.tf_core.specs.declared.signature.Symbol.{Symbol}
@@ -21,18 +20,22 @@ use Rattle.enc_marks.specs.Axioms.{own_application, premises, typing_axiom, last
 use Rattle.enc_marks.specs.Choices.{Choices}
 use Rattle.enc_marks.specs.Encoded.{MarkedSymbol, all_numbers, marked_symbol, typing_of}
 use Rattle.enc_marks.specs.Translation.{Bare, Numbers, arguments, bare, bind, exists, formula}
-use Rattle.enc_marks.specs.Translation.{placed, type_term}
+use Rattle.enc_marks.specs.Translation.{placed, tag, type_term}
 use Rattle.enc_marks.specs.declared.shape.Shape.{Shape}
+use Rattle.enc_marks.specs.Calls.Slots.{slots_of, AreGround}
 
 -- a type as a term
 abbrev pub type_term_in : Normal → ℕ → Ty → FofTerm
 type_term_in normal depth ty = type_term (all_numbers normal).constructor depth ty
 
 -- this is a symbol of the signature, with its covers and the type arguments that are written
-pub record IsShape (c : Choices) (symbol : Option Symbol) (shape : Shape) : Type 0 where
+pub record IsShape (c : Choices) (normal : Normal) (symbol : Option Symbol) (shape : Shape) :
+    Type 0 where
   pub symbol_is : symbol ≡ Some shape.symbol.now
   pub covers_are : shape.covers.now ≡ covers shape.symbol.now
   pub kept_are : shape.kept.now ≡ c.keeps shape.symbol.now
+  pub slots_are : shape.slots.now ≡ slots_of c normal shape.symbol.now
+  pub ground : AreGround c.marking shape.symbol.now.arguments
 
 -- a term is of this kind below binders of these kinds, whatever the choices are
 abbrev pub IsKind : List Kind → Term → Kind → Type 0
@@ -78,6 +81,10 @@ module _ (c : Choices) (normal : Normal) where
   abbrev pub bind_in : ℕ → Ty → FofTerm → Fof
   bind_in depth ty t = bind c (all_numbers normal) normal.signature depth ty t
 
+  -- a term with the tag of a type
+  abbrev pub tag_in : ℕ → Ty → FofTerm → FofTerm
+  tag_in depth ty t = tag c (all_numbers normal) normal.signature depth ty t
+
   -- a formula's translation
   abbrev pub formula_in : ℕ → List Kind → Nnf → Fof
   formula_in depth kinds p = formula c (all_numbers normal) normal.signature p depth kinds
@@ -105,6 +112,5 @@ module _ (c : Choices) (normal : Normal) where
   abbrev pub typing_axiom_in : ℕ → Symbol → Ty → Fof
   typing_axiom_in = typing_axiom c (all_numbers normal) normal.signature
 
-  abbrev pub last_in : Fof
-  last_in =
-      ForAll (last_axiom c (all_numbers normal) normal.signature c.binding 1 (type.Var 0))
+  abbrev pub last_in : ℕ → Ty → Fof
+  last_in = last_axiom c (all_numbers normal) normal.signature c.binding

@@ -1,5 +1,5 @@
 use Rattle.std.proofs.Common.{◌≡◌, ◌≤◌, ◌<◌, ◌++◌, ◌∷◌, [], Bool, List, map, min, take, ap, sym, ◌∙◌, length, get_or, false, append_assoc, arith}
-use Rattle.std.specs.Prelude.{Option}
+use Rattle.std.specs.Prelude.{Option, Some}
 use Rattle.std.proofs.lemmas.List.{append-nil, get_or-map, length-map}
 use Rattle.tf_core.specs.declared.ty.Ty.{Ty}
 use Rattle.tf_core.specs.declared.term.Term.{Term}
@@ -15,7 +15,11 @@ use Rattle.enc_marks.specs.Calls.Writing.{arguments_in, bare_in, placed_in, type
 use Rattle.enc_marks.proofs.Translation.{bare-variable, bare-apply}
 use Rattle.enc_marks.proofs.Results.{ok_with}
 use Rattle.enc_marks.proofs.Places.{placed_all-more, placed_all-none, placed_all-take}
+use Rattle.enc_marks.specs.declared.slot.Slot.{Slot}
+use Rattle.enc_marks.specs.Calls.Slots.{no_slot, slot_in, IsGround}
+use Rattle.enc_marks.proofs.ArgumentPlaces.{ground-at, slots_in-at}
 use Rattle.enc_marks.proofs.CoverCount.{length-covers}
+use Rattle.enc_marks.proofs.Symbols.{slice_get-within, same_at}
 use Rattle.enc_marks.proofs.writer.Writer.+term.Goals as goal
 
 pub applied-loop-i-init : goal.applied-loop-i-init
@@ -56,16 +60,25 @@ applied-loop-i-preserved g t c =
     omega (arith, c.loop-i-test.true, c.min-count.ensures, count) in
     let there : i < length c.args.terms.now =
     omega (arith, c.loop-i-test.true, c.min-count.ensures) in
-    let flag : c.flag_at-cover.result ≡ get_or tests i false =
-    c.flag_at-cover.ensures ∙ ap (λ (flags : List Bool). get_or flags i false)
-    c.requires.shape.covers_are in
     let declared : ty ≡ get_or symbol.arguments i ty =
     c.index-declared-i.is ∙ ap (λ (items : List Ty). get_or items i ty) c.as_slice-declared.ensures
     in
+    let found = c.slot_at-slot.ensures ∙ ap (λ (slots : List Slot). get_or slots i no_slot)
+    c.requires.shape.slots_are
+    ∙ slots_in-at choices normal tests symbol.arguments i no_slot ty (omega (arith, here, covered))
+    here in
+    let flag : c.slot_at-slot.result.cover ≡ get_or tests i false = ap (λ (s : Slot). s.cover) found
+    in
+    let same : c.slot_at-slot.result ≡ slot_in choices normal c.slot_at-slot.result.cover ty =
+    found ∙ ap (λ (t : Ty). slot_in choices normal (get_or tests i false) t) (sym declared)
+    ∙ ap (λ (cover : Bool). slot_in choices normal cover ty) (sym flag) in
+    let ground : IsGround choices.marking ty = slice_get-within symbol.arguments i here
+    (λ one at is. ground-at choices.marking symbol.arguments i ty c.requires.shape.ground
+    (at ∙ ap Some (same_at symbol.arguments i here one ty is declared))) in
     c.in_ok-push.ensures.ok
     ∙ ap (λ (made : List FofTerm). made ++ c.in_ok-term.term ∷ []) c.loop-i.invariant
     ∙ ap (λ t. (before ++ front) ++ t ∷ [])
-    (c.in_ok-term.ensures
+    (c.in_ok-term.ensures ground same
     ∙ ap (λ b. place b (one ty) (bare term)) flag
     ∙ ap (λ t. place (get_or tests i false) (one t) (bare term)) declared
     ∙ ap (λ t. place (get_or tests i false) t (bare term))

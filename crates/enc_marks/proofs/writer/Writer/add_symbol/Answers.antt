@@ -19,8 +19,14 @@ returns g c =
     let symbol = c.in-Some.shape.symbol.now in
     let found = c.in-Some.ensures in
     let up : c.has.result ≡ true = search (rules, c.if-not-has.false) in
-    let made = c.in_ok-symbol_of.ensures choices
-    (record { symbol_is = refl; covers_are = found.covers_are; kept_are = found.kept_are }) f in
+    let made = c.in_ok-symbol_of.ensures choices c.args.self.now.types.normal.now
+    (record {
+      symbol_is = refl;
+      covers_are = found.covers_are;
+      kept_are = found.kept_are;
+      slots_are = found.slots_are;
+      ground = found.ground;
+    }) f in
     on_ok c.push.result
     (subst (λ (list : List MarkedSymbol). MarksAdded c.args.marked.now c.push.new.self list)
     (ap (λ (made : FofSymbol). record { mark = mark.Symbol f; symbol = made } ∷ []) made
