@@ -215,3 +215,5 @@ merges_by_type scheme.Args normal s merged = cc
 merges_by_type scheme.Erase normal s merged = cc
 merges_by_type scheme.GuardsLight normal s merged = cc
 merges_by_type scheme.TagsLight normal s merged = cc
+merges_by_type scheme.GuardsFeather normal s merged = cc
+merges_by_type scheme.TagsFeather normal s merged = cc

@@ -9,13 +9,10 @@ use Rattle.tf_core.specs.Sound.{is_monomorphic, IsSoundNormal}
 use Rattle.tf_core.specs.Structures.{Typed}
 use Rattle.tf_core.specs.Models.{IsNormalModel}
 use Rattle.tf_naked.specs.Naked.{naked_places, is_free}
-use Rattle.enc_marks.specs.declared.choices.Domain.TheVariants.{Collapsed}
-use Rattle.enc_marks.specs.declared.scheme.Scheme.{Scheme}
 use Rattle.enc_marks.specs.declared.scheme.Scheme.TheVariants as scheme
-use Rattle.enc_marks.specs.Applies.{Applies}
 use Rattle.enc_marks.specs.Choices.{Choices}
 use Rattle.enc_marks.specs.Laws.{Fit}
-use Rattle.enc_marks.specs.Schemes.{args, erase, guards_light, tags_light, guards_feather, tags_feather, choices_of}
+use Rattle.enc_marks.specs.Schemes.{args, erase, guards_light, tags_light, guards_feather, tags_feather}
 use Rattle.enc_marks.proofs.OccurringSymbols.{only_marked}
 use Rattle.enc_marks.proofs.SoundSchemes.{schemes_fitting}
 use Rattle.enc_laws.specs.CollapsedStructure.{collapsed}
@@ -48,44 +45,37 @@ sorts_encoded c is_bare normal s fit by bare_free monomorphic sound model =
     (sorts_satisfy c is_bare normal s by bare_free monomorphic sound typed model)
     (only_marked c normal fit typed)
 
-schemes_encoded : (which : Scheme) (normal : Normal) (s : Typed) →
-    (choices_of which normal).domain ≡ Collapsed → IsSoundNormal normal → Applies which normal →
-    IsNormalModel normal s → CollapsedIsEncodedModel (choices_of which normal) normal s
-schemes_encoded scheme.Guards normal s collapses sound applies model = cc
-schemes_encoded scheme.Tags normal s collapses sound applies model = cc
-schemes_encoded scheme.GuardsCover normal s collapses sound applies model = cc
-schemes_encoded scheme.TagsCover normal s collapses sound applies model = cc
-schemes_encoded scheme.Args normal s collapses sound applies model =
+pub models_encoded_collapsed : ModelsAreEncodedCollapsed
+models_encoded_collapsed scheme.Guards normal s collapses sound applies model = cc
+models_encoded_collapsed scheme.Tags normal s collapses sound applies model = cc
+models_encoded_collapsed scheme.GuardsCover normal s collapses sound applies model = cc
+models_encoded_collapsed scheme.TagsCover normal s collapses sound applies model = cc
+models_encoded_collapsed scheme.Args normal s collapses sound applies model =
     args_encoded normal s (schemes_fitting.schemes scheme.Args normal applies) applies
     (normal_typed normal sound) model
-schemes_encoded scheme.Erase normal s collapses sound applies model =
+models_encoded_collapsed scheme.Erase normal s collapses sound applies model =
     sorts_encoded erase (λ ty. true) normal s
     (schemes_fitting.schemes scheme.Erase normal applies)
     (schemes_bear.erase_bears normal.signature)
     (λ ty is bare. type_there (λ sort. IsTrue (is_free normal sort)) (sorts normal) ty applies.1 is)
     applies.0 sound model
-schemes_encoded scheme.GuardsLight normal s collapses sound applies model =
+models_encoded_collapsed scheme.GuardsLight normal s collapses sound applies model =
     sorts_encoded (guards_light (is_free normal)) (is_free normal) normal s
     (schemes_fitting.schemes scheme.GuardsLight normal applies)
     (schemes_bear.guards_light_bears normal.signature (is_free normal)) (λ ty is bare. bare)
     applies sound model
-schemes_encoded scheme.TagsLight normal s collapses sound applies model =
+models_encoded_collapsed scheme.TagsLight normal s collapses sound applies model =
     sorts_encoded (tags_light (is_free normal)) (is_free normal) normal s
     (schemes_fitting.schemes scheme.TagsLight normal applies)
     (schemes_bear.tags_light_bears normal.signature (is_free normal)) (λ ty is bare. bare)
     applies sound model
-
-pub models_encoded_collapsed : ModelsAreEncodedCollapsed
-models_encoded_collapsed = record {
-  schemes = schemes_encoded;
-  by_feather_guards = λ normal s sound monomorphic model.
-      sorts_encoded (guards_feather (is_free normal)) (is_free normal) normal s
-      (schemes_fitting.guards_feather_fits normal monomorphic)
-      (schemes_bear.guards_feather_bears normal.signature (is_free normal)) (λ ty is bare. bare)
-      monomorphic sound model;
-  by_feather_tags = λ normal s sound monomorphic model.
-      sorts_encoded (tags_feather (is_free normal)) (is_free normal) normal s
-      (schemes_fitting.tags_feather_fits normal monomorphic)
-      (schemes_bear.tags_feather_bears normal.signature (is_free normal)) (λ ty is bare. bare)
-      monomorphic sound model;
-}
+models_encoded_collapsed scheme.GuardsFeather normal s collapses sound applies model =
+    sorts_encoded (guards_feather (is_free normal)) (is_free normal) normal s
+    (schemes_fitting.schemes scheme.GuardsFeather normal applies)
+    (schemes_bear.guards_feather_bears normal.signature (is_free normal)) (λ ty is bare. bare)
+    applies sound model
+models_encoded_collapsed scheme.TagsFeather normal s collapses sound applies model =
+    sorts_encoded (tags_feather (is_free normal)) (is_free normal) normal s
+    (schemes_fitting.schemes scheme.TagsFeather normal applies)
+    (schemes_bear.tags_feather_bears normal.signature (is_free normal)) (λ ty is bare. bare)
+    applies sound model

@@ -83,6 +83,8 @@ total_lifted scheme.Args normal j marking sound total satisfied =
 total_lifted scheme.Erase normal j marking sound total satisfied = cc
 total_lifted scheme.GuardsLight normal j marking sound total satisfied = cc
 total_lifted scheme.TagsLight normal j marking sound total satisfied = cc
+total_lifted scheme.GuardsFeather normal j marking sound total satisfied = cc
+total_lifted scheme.TagsFeather normal j marking sound total satisfied = cc
 
 -- a lift by the marks that occur
 from_tables : (c : Choices) (normal : Normal) (s : Structure) → LiftsByType c →
@@ -113,3 +115,5 @@ tables_lifted scheme.Args normal s marking sound model =
 tables_lifted scheme.Erase normal s marking sound model = cc
 tables_lifted scheme.GuardsLight normal s marking sound model = cc
 tables_lifted scheme.TagsLight normal s marking sound model = cc
+tables_lifted scheme.GuardsFeather normal s marking sound model = cc
+tables_lifted scheme.TagsFeather normal s marking sound model = cc

@@ -16,7 +16,6 @@ use Rattle.enc_marks.specs.declared.choices.Elements.TheVariants.{Guarded, Fixed
 use Rattle.enc_marks.specs.declared.choices.Marking.TheVariants.{ByType, BySort}
 use Rattle.enc_marks.specs.declared.scheme.Scheme.{Scheme}
 use Rattle.enc_marks.specs.declared.scheme.Scheme.TheVariants as scheme
-use Rattle.enc_marks.specs.Applies.{Applies}
 use Rattle.enc_marks.specs.Choices.{Choices}
 use Rattle.enc_marks.specs.Schemes.{erase, guards_light, guards_feather, tags_feather, choices_of}
 use Rattle.enc_marks.specs.Encoded.{all_numbers, is_present, translation, encoded}
@@ -145,6 +144,12 @@ sorts_lifted scheme.GuardsLight normal j marking sound applies total satisfied =
 sorts_lifted scheme.TagsLight normal j marking sound applies total satisfied =
     tags_light_lifted_model normal all_present j applies sound total
     (λ f symbol kept values members elements at none h. absurd (false≢true (sym none))) satisfied
+sorts_lifted scheme.GuardsFeather normal j marking sound applies total satisfied =
+    from_total (guards_feather (is_free normal)) normal j (guards_feather_lift normal) applies sound
+    total satisfied
+sorts_lifted scheme.TagsFeather normal j marking sound applies total satisfied =
+    from_total (tags_feather (is_free normal)) normal j (tags_feather_lift normal) applies sound
+    total satisfied
 
 -- a lift by the marks that occur
 from_tables : (c : Choices) (normal : Normal) (s : Structure) → LiftsBySort c normal →
@@ -168,34 +173,27 @@ by_types : (which : Scheme) (normal : Normal) (s : Structure) →
 by_types which normal s marking sound model =
     tables_lifted which normal s marking (normal_typed normal sound) model
 
-scheme_lifted : (which : Scheme) (normal : Normal) (s : Structure) → IsSoundNormal normal →
-    Applies which normal → AreModel (encoded (choices_of which normal) normal).problem s →
-    IsNormalModel normal (lifted_of (choices_of which normal) normal (reading s))
-scheme_lifted scheme.Guards normal s sound applies model =
+pub models_lifted : ModelsAreLifted
+models_lifted scheme.Guards normal s sound applies model =
     by_types scheme.Guards normal s refl sound model
-scheme_lifted scheme.Tags normal s sound applies model =
+models_lifted scheme.Tags normal s sound applies model =
     by_types scheme.Tags normal s refl sound model
-scheme_lifted scheme.GuardsCover normal s sound applies model =
+models_lifted scheme.GuardsCover normal s sound applies model =
     by_types scheme.GuardsCover normal s refl sound model
-scheme_lifted scheme.TagsCover normal s sound applies model =
+models_lifted scheme.TagsCover normal s sound applies model =
     by_types scheme.TagsCover normal s refl sound model
-scheme_lifted scheme.Args normal s sound applies model =
+models_lifted scheme.Args normal s sound applies model =
     by_types scheme.Args normal s refl sound model
-scheme_lifted scheme.Erase normal s sound applies model =
+models_lifted scheme.Erase normal s sound applies model =
     from_tables erase normal s (erase_lift normal) refl applies.0 sound model
-scheme_lifted scheme.GuardsLight normal s sound applies model =
+models_lifted scheme.GuardsLight normal s sound applies model =
     from_tables (guards_light (is_free normal)) normal s (guards_light_lift normal) refl applies
     sound model
-scheme_lifted scheme.TagsLight normal s sound applies model =
+models_lifted scheme.TagsLight normal s sound applies model =
     tags_light_tables_lifted normal s applies sound model
-
-pub models_lifted : ModelsAreLifted
-models_lifted = record {
-  schemes = scheme_lifted;
-  by_feather_guards = λ normal s sound monomorphic model.
-      from_tables (guards_feather (is_free normal)) normal s (guards_feather_lift normal) refl
-      monomorphic sound model;
-  by_feather_tags = λ normal s sound monomorphic model.
-      from_tables (tags_feather (is_free normal)) normal s (tags_feather_lift normal) refl
-      monomorphic sound model;
-}
+models_lifted scheme.GuardsFeather normal s sound applies model =
+    from_tables (guards_feather (is_free normal)) normal s (guards_feather_lift normal) refl applies
+    sound model
+models_lifted scheme.TagsFeather normal s sound applies model =
+    from_tables (tags_feather (is_free normal)) normal s (tags_feather_lift normal) refl applies
+    sound model

@@ -89,16 +89,8 @@ ModelsAreCollapsedBySort = (c : Choices) (is_bare : Ty → Bool) (normal : Norma
     AreSatisfied (collapsed c normal s) (translation c normal)
 
 -- The collapsed structure of each model of a sound problem is, over the symbols that occur, a model
--- of the encoded problem: by each scheme that collapses, where it applies, and by the feather
--- schemes where there are no type variables.
-pub record ModelsAreEncodedCollapsed : Type 0 where
-  pub schemes : (which : Scheme) (normal : Normal) (s : Typed) →
-      (choices_of which normal).domain ≡ Collapsed → IsSoundNormal normal →
-      Applies which normal → IsNormalModel normal s →
-      CollapsedIsEncodedModel (choices_of which normal) normal s
-  pub by_feather_guards : (normal : Normal) (s : Typed) → IsSoundNormal normal →
-      IsTrue (is_monomorphic normal) → IsNormalModel normal s →
-      CollapsedIsEncodedModel (guards_feather (is_free normal)) normal s
-  pub by_feather_tags : (normal : Normal) (s : Typed) → IsSoundNormal normal →
-      IsTrue (is_monomorphic normal) → IsNormalModel normal s →
-      CollapsedIsEncodedModel (tags_feather (is_free normal)) normal s
+-- of the encoded problem: by each scheme that collapses, where it applies.
+abbrev pub ModelsAreEncodedCollapsed : Type 0
+ModelsAreEncodedCollapsed = (which : Scheme) (normal : Normal) (s : Typed) →
+    (choices_of which normal).domain ≡ Collapsed → IsSoundNormal normal → Applies which normal →
+    IsNormalModel normal s → CollapsedIsEncodedModel (choices_of which normal) normal s

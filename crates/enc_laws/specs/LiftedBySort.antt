@@ -1,15 +1,14 @@
 -- What schemes promise whose guards or tags are those of sorts: an untyped model of the translation
 -- gives a typed model of the problem, whose members are the sorts. So does each scheme.
-use Rattle.std.specs.Prelude.{ℕ, ◌<◌, ◌≡◌, List, [], ◌∷◌, slice_get, Some, None, IsTrue}
+use Rattle.std.specs.Prelude.{ℕ, ◌<◌, ◌≡◌, List, [], ◌∷◌, slice_get, Some, None}
 use Rattle.tf_core.specs.declared.ty.Ty.{Ty}
 use Rattle.tf_core.specs.declared.signature.Symbol.{Symbol}
 use Rattle.tf_core.specs.declared.normal.Normal.{Normal}
-use Rattle.tf_core.specs.Sound.{is_monomorphic, IsSoundNormal}
+use Rattle.tf_core.specs.Sound.{IsSoundNormal}
 use Rattle.tf_core.specs.Models.{IsNormalModel}
 use Rattle.fof_models.specs.declared.structure.Structure.{Structure}
 use Rattle.fof_models.specs.Structures.{Untyped, reading}
 use Rattle.fof_models.specs.Models.{AreSatisfied, AreModel}
-use Rattle.tf_naked.specs.Naked.{is_free}
 use Rattle.tf_naked.specs.SortLaws.{IsSort}
 use Rattle.enc_marks.specs.declared.choices.Marking.TheVariants.{BySort}
 use Rattle.enc_marks.specs.declared.choices.Binding.TheVariants.{ByTag}
@@ -17,7 +16,7 @@ use Rattle.enc_marks.specs.declared.scheme.Scheme.{Scheme}
 use Rattle.enc_marks.specs.Applies.{Applies}
 use Rattle.enc_marks.specs.Choices.{Choices}
 use Rattle.enc_marks.specs.Encoded.{all_numbers, translation, encoded}
-use Rattle.enc_marks.specs.Schemes.{guards_feather, tags_feather, choices_of}
+use Rattle.enc_marks.specs.Schemes.{choices_of}
 use Rattle.enc_laws.specs.Lifted.{lifted, lift_by_sort, IsClosed}
 use Rattle.enc_laws.specs.Present.{all_present}
 use Rattle.enc_laws.specs.Laws.{lifted_of}
@@ -44,16 +43,8 @@ SortsAreLifted = (which : Scheme) (normal : Normal) (j : Untyped) →
     (lift_by_sort (choices_of which normal) normal (all_numbers normal) j))
 
 -- Each finite model of what a scheme makes of a normal problem to which it applies gives a model of
--- the normal problem. So does each of what a feather scheme makes of one without type variables.
-pub record ModelsAreLifted : Type 0 where
-  pub schemes : (which : Scheme) (normal : Normal) (s : Structure) → IsSoundNormal normal →
-      Applies which normal → AreModel (encoded (choices_of which normal) normal).problem s →
-      IsNormalModel normal (lifted_of (choices_of which normal) normal (reading s))
-  pub by_feather_guards : (normal : Normal) (s : Structure) → IsSoundNormal normal →
-      IsTrue (is_monomorphic normal) →
-      AreModel (encoded (guards_feather (is_free normal)) normal).problem s →
-      IsNormalModel normal (lifted_of (guards_feather (is_free normal)) normal (reading s))
-  pub by_feather_tags : (normal : Normal) (s : Structure) → IsSoundNormal normal →
-      IsTrue (is_monomorphic normal) →
-      AreModel (encoded (tags_feather (is_free normal)) normal).problem s →
-      IsNormalModel normal (lifted_of (tags_feather (is_free normal)) normal (reading s))
+-- the normal problem.
+abbrev pub ModelsAreLifted : Type 0
+ModelsAreLifted = (which : Scheme) (normal : Normal) (s : Structure) → IsSoundNormal normal →
+    Applies which normal → AreModel (encoded (choices_of which normal) normal).problem s →
+    IsNormalModel normal (lifted_of (choices_of which normal) normal (reading s))

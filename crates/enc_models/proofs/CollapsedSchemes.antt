@@ -1,14 +1,12 @@
 -- The schemes that lower to the collapsed domain have choices whose tables are made.
-use Rattle.std.specs.Prelude.{ℕ, zero, suc, ◌≡◌, Bool, true, List, [], ◌∷◌, length, count_by, replicate, IsTrue}
+use Rattle.std.specs.Prelude.{ℕ, zero, suc, ◌≡◌, Bool, true, List, [], ◌∷◌, length, count_by, replicate}
 use Rattle.std.proofs.Common.{refl, sym, ap, ◌∙◌, arith}
 use Rattle.std.proofs.lemmas.List.{length-replicate}
 use Rattle.tf_core.specs.declared.normal.Normal.{Normal}
-use Rattle.tf_core.specs.Sound.{is_monomorphic}
-use Rattle.enc_marks.specs.declared.choices.Marking.TheVariants.{ByType, BySort}
+use Rattle.enc_marks.specs.declared.choices.Marking.TheVariants.{ByType}
 use Rattle.enc_marks.specs.declared.choices.Domain.TheVariants.{Collapsed}
 use Rattle.enc_marks.specs.declared.scheme.Scheme.{Scheme}
 use Rattle.enc_marks.specs.declared.scheme.Scheme.TheVariants as scheme
-use Rattle.enc_marks.specs.Applies.{Applies}
 use Rattle.enc_marks.specs.Schemes.{choices_of}
 use Rattle.enc_marks.specs.Translation.{selected}
 use Rattle.enc_laws.proofs.Stamped.{length-selected}
@@ -50,15 +48,5 @@ types_written scheme.Args normal collapsed by_type = record {
 types_written scheme.Erase normal collapsed by_type = cc
 types_written scheme.GuardsLight normal collapsed by_type = cc
 types_written scheme.TagsLight normal collapsed by_type = cc
-
--- the others apply where there are no type variables
-pub none_polymorphic : (which : Scheme) (normal : Normal) → Applies which normal →
-    (choices_of which normal).marking ≡ BySort → IsTrue (is_monomorphic normal)
-none_polymorphic scheme.Guards normal applies by_sort = cc
-none_polymorphic scheme.Tags normal applies by_sort = cc
-none_polymorphic scheme.GuardsCover normal applies by_sort = cc
-none_polymorphic scheme.TagsCover normal applies by_sort = cc
-none_polymorphic scheme.Args normal applies by_sort = cc
-none_polymorphic scheme.Erase normal applies by_sort = applies.0
-none_polymorphic scheme.GuardsLight normal applies by_sort = applies
-none_polymorphic scheme.TagsLight normal applies by_sort = applies
+types_written scheme.GuardsFeather normal collapsed by_type = cc
+types_written scheme.TagsFeather normal collapsed by_type = cc

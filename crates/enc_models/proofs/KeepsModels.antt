@@ -1,8 +1,7 @@
 -- Schemes keep models, from the laws of the structures.
-use Rattle.std.specs.Prelude.{◌≡◌, ◌↔◌, List, [], ◌∷◌, length}
+use Rattle.std.specs.Prelude.{◌≡◌, ◌↔◌, length}
 use Rattle.std.proofs.Common.{refl, sym, subst}
 use Rattle.tf_core.specs.declared.normal.Normal.{Normal}
-use Rattle.tf_core.specs.Structures.{Typed}
 use Rattle.tf_core.specs.Sound.{IsSoundNormal}
 use Rattle.tf_core.specs.TypedTables.{TypedTables, AreNormalModel}
 use Rattle.tf_core.specs.TypedTables as typed
@@ -55,13 +54,13 @@ lowers_models which merges normal t sound applies are =
 pub collapsed_lower : (which : Scheme) → IsCollapsed which → LowersModels which
 collapsed_lower which collapses normal t sound applies are =
     tables_lowered which Collapsed normal t (collapses normal) sound applies
-    (models_encoded_collapsed.schemes which normal (typed.reading normal.signature t)
+    (models_encoded_collapsed which normal (typed.reading normal.signature t)
     (collapses normal) sound applies are.model)
 
 pub lifts_models : (which : Scheme) → LiftsModels which
 lifts_models which normal s sound applies model =
     AreNormalModel-tabled normal (lifted_structure (choices_of which normal) normal s)
-    (normal_typed normal sound) (models_lifted.schemes which normal s sound applies model)
+    (normal_typed normal sound) (models_lifted which normal s sound applies model)
 
 -- A scheme that keeps models has a finite model of the translation exactly where the problem has one.
 pub finite_models_kept : (which : Scheme) → KeepsModels which → (normal : Normal) →

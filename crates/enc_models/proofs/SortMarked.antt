@@ -18,3 +18,5 @@ sorts_monomorphic scheme.Args normal applies by_sort = cc
 sorts_monomorphic scheme.Erase normal applies by_sort = applies.0
 sorts_monomorphic scheme.GuardsLight normal applies by_sort = applies
 sorts_monomorphic scheme.TagsLight normal applies by_sort = applies
+sorts_monomorphic scheme.GuardsFeather normal applies by_sort = applies
+sorts_monomorphic scheme.TagsFeather normal applies by_sort = applies

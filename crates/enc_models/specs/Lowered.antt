@@ -13,10 +13,12 @@ use Rattle.enc_marks.specs.declared.refusal.Refusal.TheVariants.{NotMonomorphic,
 use Rattle.enc_marks.specs.declared.refusal.Refusal.TheVariants.{TableTooLarge, Memory}
 use Rattle.enc_marks.specs.declared.choices.Domain.{Domain}
 use Rattle.enc_marks.specs.declared.choices.Domain.TheVariants.{Merged, Collapsed}
+use Rattle.enc_marks.specs.declared.choices.Marking.TheVariants.{BySort}
+use Rattle.enc_marks.specs.declared.encoded.Encoded.{Encoded}
 use Rattle.enc_marks.specs.Choices.{Choices}
 use Rattle.enc_marks.specs.Encoded.{all_marks, is_present, translation, encoded}
 use Rattle.enc_laws.specs.MergedStructure.{merged}
-use Rattle.enc_laws.specs.CollapsedStructure.{collapsed}
+use Rattle.enc_laws.specs.CollapsedStructure.{collapsed, collapsed_size}
 use Rattle.enc_laws.specs.Present.{over_present}
 
 -- the untyped structure of the typed one, over all marked symbols
@@ -38,6 +40,20 @@ lowered c normal t = tabled (encoded c normal).problem.signature (lowered_struct
 abbrev pub lowered_entries : Choices → Normal → TypedTables → ℕ
 lowered_entries c normal t =
     untyped_count (lowered_structure c normal t).size (encoded c normal).problem.signature
+
+-- how many they hold of a scheme whose marks are of sorts, over the collapsed domain
+abbrev pub entries_by_sort : Normal → Encoded → TypedTables → ℕ
+entries_by_sort normal encoded t =
+    untyped_count (collapsed_size BySort normal (reading normal.signature t))
+    encoded.problem.signature
+
+-- so many numbers are too many, and the refusal carries how many
+abbrev pub IsTooLarge : ℕ → Refusal → Type 0
+IsTooLarge count (NotMonomorphic name) = ⊥
+IsTooLarge count (NotMonotone place) = ⊥
+IsTooLarge count (TableTooLarge entries) =
+    (most_entries < count) × (entries ≡ in_64_bits count)
+IsTooLarge count Memory = ⊥
 
 -- The tables would hold too many numbers, and the refusal carries how many. Or they wouldn't, and
 -- there was no memory. There is no other cause.

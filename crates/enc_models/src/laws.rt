@@ -10,7 +10,7 @@ pub fn merged_schemes_keep_models()
 {}
 
 /// The lowered tables of any model of a sound normal problem are a model of its translation by
-/// `args`, `erase` or a light scheme, where the scheme applies.
+/// `args`, `erase`, a light or a feather scheme, where the scheme applies.
 pub fn collapsed_schemes_lower_models()
     ensures { CollapsedSchemesLowerModels }
 {}

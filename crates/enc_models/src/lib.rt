@@ -4,6 +4,7 @@
 mod blocks;
 mod collapsing;
 mod kept;
+mod large;
 mod laws;
 mod lifted_sorts;
 mod lifted_types;
@@ -21,6 +22,7 @@ mod to_collapsed;
 mod to_typed;
 mod to_untyped;
 
+pub use large::refuse_large;
 pub use laws::{collapsed_schemes_lower_models, merged_schemes_keep_models, schemes_lift_models};
 pub use schemes::{lift_by, lower_by, lower_collapsed_by};
 pub use to_collapsed::lower_collapsed;

@@ -31,7 +31,7 @@ lift-requires-clause-fits g c =
     let model = c.requires.1.1.1.1.1.1 in
     subst (λ (k : Choices). IsStructure normal.signature (lifted_structure k normal s))
     (sym choices_are)
-    (models_lifted.schemes g.which normal s sound applies
+    (models_lifted g.which normal s sound applies
     (subst (λ (e : Encoded). AreModel e.problem s) encoded_is model)).structure
 
 pub returns-clause-model : goal.returns-clause-model

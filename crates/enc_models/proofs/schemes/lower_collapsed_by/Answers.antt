@@ -11,7 +11,8 @@ use Rattle.enc_marks.specs.Choices.{Choices}
 use Rattle.enc_marks.specs.Schemes.{choices_of}
 use Rattle.enc_models.specs.Bare.{WritesTypeArguments}
 use Rattle.enc_models.specs.Lowered.{lowered}
-use Rattle.enc_models.proofs.CollapsedSchemes.{types_written, none_polymorphic}
+use Rattle.enc_models.proofs.CollapsedSchemes.{types_written}
+use Rattle.enc_models.proofs.SortMarked.{sorts_monomorphic}
 use Rattle.enc_models.proofs.KeepsModels.{collapsed_lower}
 use Rattle.enc_models.proofs.schemes.lower_collapsed_by.Goals as goal
 
@@ -27,7 +28,7 @@ lower_collapsed-requires-clause-by_sort g c =
     let normal : Normal = c.args.normal.now in
     subst (λ (k : Choices). k.marking ≡ BySort → IsTrue (is_monomorphic normal))
     (sym c.requires.1.0)
-    (none_polymorphic g.which normal c.requires.1.1.1.0)
+    (sorts_monomorphic g.which normal c.requires.1.1.1.0)
 
 pub returns-clause-model : goal.returns-clause-model
 returns-clause-model g c =
