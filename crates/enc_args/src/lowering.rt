@@ -1,4 +1,4 @@
-ghost use Rattle.std.specs.Prelude.{◌≡◌, ◌<◌, ◌≤◌, ◌^◌, length, IfOk, IfErr};
+ghost use Rattle.std.specs.Prelude.{◌≡◌, ◌⊎◌, ◌<◌, ◌≤◌, ◌^◌, length, IfOk, IfErr};
 ghost use Rattle.tf_core.specs.Sound.{IsSoundNormal};
 ghost use Rattle.tf_core.specs.TypedTables.{AreNormalModel};
 ghost use Rattle.tf_models.specs.Reading.{tables};
@@ -9,15 +9,17 @@ ghost use Rattle.enc_marks.specs.Encoded as encoding;
 ghost use Rattle.enc_marks.specs.Schemes.{choices_of};
 ghost use Rattle.enc_models.specs.Lowered.{lowered, lowered_entries, IsRefused};
 
-use crate::choices::Args;
+use crate::args::Args;
+use crate::erase::Erase;
 use enc_marks::{Encoded, Refusal, Scheme};
 use fof_models::Structure;
 use std::alloc::Global;
 use tf_core::Normal;
 use tf_models::TypedStructure;
 
-/// The untyped model that a typed model of a normal problem gives of its translation. It has as many
-/// elements as there are members, or as the greatest member has, and the problem has no naked place.
+/// The untyped model that a typed model of a normal problem gives of its translation. Under `args` it
+/// has as many elements as there are members, or as the greatest member has; under `erase` as many as
+/// the greatest member that is the value of a sort.
 ///
 /// Refused where its tables would hold more than 67,108,864 numbers, the size counted in. They are
 /// counted first, and nothing is made for a model that is refused.
@@ -28,7 +30,7 @@ pub fn lower(
     encoded: &Encoded,
     model: &TypedStructure,
 ) -> Result<Structure, Refusal>
-    requires scheme { which ≡ Scheme.Args }
+    requires scheme { (which ≡ Scheme.Args) ⊎ (which ≡ Scheme.Erase) }
     requires applies { Applies which normal.now }
     requires sound { IsSoundNormal normal.now }
     requires encoded { encoded.now ≡ encoding.encoded (choices_of which normal.now) normal.now }
@@ -43,7 +45,8 @@ pub fn lower(
         (IsRefused (choices_of which normal.now) normal.now (tables model.now)) }
 {
     match which {
-        Scheme::Args => enc_models::lower_collapsed(alloc, &Args, normal, encoded, model),
+        Scheme::Args => enc_models::lower_collapsed_by(alloc, &Args, normal, encoded, model),
+        Scheme::Erase => enc_models::lower_collapsed_by(alloc, &Erase, normal, encoded, model),
         _ => unreachable!(),
     }
 }
