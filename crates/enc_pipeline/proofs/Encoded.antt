@@ -1,5 +1,5 @@
--- The headline of problems that are encoded by a scheme that is built and applies to them.
-use Rattle.std.proofs.Common.{◌≡◌, ◌≤◌, true}
+-- The headline of problems that are encoded by a scheme that applies to them.
+use Rattle.std.proofs.Common.{◌≤◌}
 use Rattle.std.specs.Prelude.{◌↔◌}
 use Rattle.tf_check.specs.Writable.{HasWritableNames}
 use Rattle.tf_core.specs.declared.problem.Problem.{Problem}
@@ -19,14 +19,13 @@ use Rattle.enc_marks.proofs.SoundSchemes.{schemes_fitting}
 use Rattle.enc_models.proofs.KeepsModels.{finite_models_kept}
 use Rattle.enc_pipeline.specs.Output.{output_of, translated}
 use Rattle.enc_pipeline.specs.Causes.{nodes_of}
-use Rattle.enc_pipeline.specs.Way.{is_built}
-use Rattle.enc_pipeline.proofs.Built.{built_keeps}
 use Rattle.enc_pipeline.proofs.EncodedNames.{translation_named}
 use Rattle.enc_pipeline.proofs.Headline.{text_and_problem}
+use Rattle.enc_pipeline.proofs.SchemesKeep.{schemes_keep}
 
-module _ (which : Scheme) (built : is_built which ≡ true) (problem : Problem)
-    (sound : IsSound problem) (writable : HasWritableNames problem)
-    (within : nodes_of problem ≤ most_nodes) (applies : Applies which (normal_of problem)) where
+module _ (which : Scheme) (problem : Problem) (sound : IsSound problem)
+    (writable : HasWritableNames problem) (within : nodes_of problem ≤ most_nodes)
+    (applies : Applies which (normal_of problem)) where
   sound_normal : IsSoundNormal (normal_of problem)
   sound_normal = normal_sound problem sound within
 
@@ -50,4 +49,4 @@ module _ (which : Scheme) (built : is_built which ≡ true) (problem : Problem)
   encoded_headline =
       text_and_problem which problem (translated which problem).problem sound encoded_sound
       encoded_named
-      (finite_models_kept which (built_keeps which built) (normal_of problem) sound_normal applies)
+      (finite_models_kept which (schemes_keep which) (normal_of problem) sound_normal applies)

@@ -59,6 +59,10 @@ comment_states scheme.GuardsLight text problem =
     stated_behind _ (codes " tfenc guards_light complete") text problem refl refl
 comment_states scheme.TagsLight text problem =
     stated_behind _ (codes " tfenc tags_light complete") text problem refl refl
+comment_states scheme.GuardsFeather text problem =
+    stated_behind _ (codes " tfenc guards_feather complete") text problem refl refl
+comment_states scheme.TagsFeather text problem =
+    stated_behind _ (codes " tfenc tags_feather complete") text problem refl refl
 
 -- the untyped problem has a finite model exactly when the normal problem has
 abbrev pub HaveModelsTogether : Problem → FofProblem → Type 0

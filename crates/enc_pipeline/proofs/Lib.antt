@@ -12,6 +12,7 @@ pub mod OneTable
 pub mod OneAnswer
 pub mod Numbers
 pub mod Rewritten
-pub mod Built
+pub mod SchemesKeep
+pub mod PlainWays
 pub mod Refusals
 pub mod HandedOn

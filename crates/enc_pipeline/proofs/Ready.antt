@@ -32,13 +32,13 @@ module _ (p : Preparation) (prepared : IsPrepared p) where
 
   pub sound_translation : untyped.IsSound (translation p)
   sound_translation =
-      encoded_sound p.how.scheme prepared.built p.problem prepared.sound prepared.named
-      prepared.within prepared.applies
+      encoded_sound p.how.scheme p.problem prepared.sound prepared.named prepared.within
+      prepared.applies
 
   pub translation_is_named : AreNamed (names p) (translation p)
   translation_is_named =
-      encoded_named p.how.scheme prepared.built p.problem prepared.sound prepared.named
-      prepared.within prepared.applies
+      encoded_named p.how.scheme p.problem prepared.sound prepared.named prepared.within
+      prepared.applies
 
   -- the names with which tables of the translation are written and read
   pub are_names : AreNames (translation p).signature (names p)
@@ -64,8 +64,8 @@ module _ (p : Preparation) (prepared : IsPrepared p) where
 
   pub headline : TextHasFiniteModel (output p) ↔ HasFiniteModel p.problem
   headline =
-      encoded_headline p.how.scheme prepared.built p.problem prepared.sound prepared.named
-      prepared.within prepared.applies
+      encoded_headline p.how.scheme p.problem prepared.sound prepared.named prepared.within
+      prepared.applies
 
 -- the scheme applies to the normal problem, as calls give the two
 pub applies_to_parts : (p : Preparation) (which : Scheme) (n : Normal) → IsPrepared p →

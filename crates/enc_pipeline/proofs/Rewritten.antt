@@ -30,9 +30,9 @@ use Rattle.enc_pipeline.specs.Ready.{IsPrepared}
 use Rattle.enc_pipeline.specs.Carried.{written_normal, translation, names, choices, lifted_model}
 use Rattle.enc_pipeline.specs.Carried.{IsLoweredTo, IsLiftedTo}
 use Rattle.enc_pipeline.specs.Laws.{LoweredTablesAreOfModels, LiftedTablesAreOfModels}
-use Rattle.enc_pipeline.proofs.Built.{built_keeps}
 use Rattle.enc_pipeline.proofs.Ready.{sound_normal, are_names, is_named}
 use Rattle.enc_pipeline.proofs.Numbers.{untyped_numbers, typed_numbers}
+use Rattle.enc_pipeline.proofs.SchemesKeep.{schemes_keep}
 
 -- ---- the entries of structures that are written as tables
 
@@ -110,9 +110,8 @@ module _ (p : Preparation) (table output : List ℕ) (prepared : IsPrepared p)
 
   is_model : AreModel (translation p) lowered_model
   is_model =
-      (built_keeps p.how.scheme prepared.built).lowers (written_normal p) done.extension
-      (sound_normal p prepared) prepared.applies
-      normal_model
+      (schemes_keep p.how.scheme).lowers (written_normal p) done.extension (sound_normal p prepared)
+      prepared.applies normal_model
 
   within : untyped_tables.structure_entries lowered_model ≤ most_entries
   within =
@@ -142,9 +141,8 @@ module _ (p : Preparation) (table output : List ℕ) (prepared : IsPrepared p)
     (done : IsLiftedTo p table output) where
   normal_lifted : AreNormalModel (written_normal p) (lifted_tables (choices p) (written_normal p) done.model)
   normal_lifted =
-      (built_keeps p.how.scheme prepared.built).lifts (written_normal p) done.model
-      (sound_normal p prepared) prepared.applies
-      done.is_table.is_model
+      (schemes_keep p.how.scheme).lifts (written_normal p) done.model (sound_normal p prepared)
+      prepared.applies done.is_table.is_model
 
   is_lifted_model : AreTypedModel p.problem (tables (lifted_model p done.model))
   is_lifted_model =

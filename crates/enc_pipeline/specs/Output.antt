@@ -22,6 +22,8 @@ scheme_name scheme.Args = codes "args"
 scheme_name scheme.Erase = codes "erase"
 scheme_name scheme.GuardsLight = codes "guards_light"
 scheme_name scheme.TagsLight = codes "tags_light"
+scheme_name scheme.GuardsFeather = codes "guards_feather"
+scheme_name scheme.TagsFeather = codes "tags_feather"
 
 -- the first line: a comment that names the scheme
 unfoldable pub first_line : Scheme → List ℕ

@@ -1,8 +1,7 @@
 -- A problem and the way in which it is to be encoded.
-use Rattle.std.specs.Prelude.{◌≤◌, ◌≡◌, Bool, true, false}
+use Rattle.std.specs.Prelude.{◌≤◌, ◌≡◌, false}
 use Rattle.tf_core.specs.declared.problem.Problem.{Problem}
 use Rattle.enc_marks.specs.declared.scheme.Scheme.{Scheme}
-use Rattle.enc_marks.specs.declared.scheme.Scheme.TheVariants.{Guards, Tags, GuardsCover, TagsCover, Args}
 use Rattle.enc_pipeline.specs.declared.how.How.{How}
 
 -- what a prepared problem is seen as: the rest of it is determined by these two
@@ -20,16 +19,6 @@ pub record IsInRange (how : How) : Type 0 where
 abbrev pub plain_way : Scheme → How
 plain_way which = record { scheme = which; mono = false; rounds = 3; cap = 2000 }
 
--- whether a scheme is built: `guards`, `tags`, the cover schemes and `args` are
-abbrev pub is_built : Scheme → Bool
-is_built Guards = true
-is_built Tags = true
-is_built GuardsCover = true
-is_built TagsCover = true
-is_built Args = true
-is_built _ = false
-
--- the ways that are built: by a scheme that is, without instances
-pub record IsBuilt (how : How) : Type 0 where
-  pub scheme : is_built how.scheme ≡ true
-  pub mono : how.mono ≡ false
+-- the problem is encoded as it is, and not by its instances
+abbrev pub IsWithoutInstances : How → Type 0
+IsWithoutInstances how = how.mono ≡ false

@@ -22,7 +22,6 @@ pub use laws::{
 };
 pub use lifting::lift_file;
 pub use lowering::lower_file;
-pub use output::{scheme_name, write_output};
+pub use output::scheme_name;
 pub use prepared::{Prepared, encode_file, lifts, prepare, written_formulas};
 pub use reading::read_problem;
-pub use schemes::is_built;

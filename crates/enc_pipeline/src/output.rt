@@ -1,4 +1,4 @@
-ghost use Rattle.std.specs.Prelude.{◌≡◌, ◌≤◌, ◌++◌, OnOk, OnErr};
+ghost use Rattle.std.specs.Prelude.{◌≡◌, ◌++◌, OnOk, OnErr};
 ghost use Rattle.std.specs.Io.KnownBytes.{Appends};
 ghost use Rattle.enc_base.specs.Counts.{Rose};
 ghost use Rattle.enc_base.specs.Pending.{Puts};
@@ -26,6 +26,8 @@ pub fn scheme_name(which: &Scheme) -> &'static str
         Scheme::Erase => "erase",
         Scheme::GuardsLight => "guards_light",
         Scheme::TagsLight => "tags_light",
+        Scheme::GuardsFeather => "guards_feather",
+        Scheme::TagsFeather => "tags_feather",
     }
 }
 
@@ -40,7 +42,7 @@ fn put_first_line<O: Sink>(which: &Scheme, pending: &mut Pending, out: &mut O)
 }
 
 /// Writes the first line, and then the text of the problem under these names.
-pub fn write_output<O: Sink>(
+pub(crate) fn write_output<O: Sink>(
     which: &Scheme,
     problem: &FofProblem,
     names: &Names,

@@ -9,7 +9,7 @@ ghost use Rattle.tf_nnf.specs.NormalForm.{normal_of};
 ghost use Rattle.tf_nnf.specs.Refusal.{most_nodes};
 ghost use Rattle.fof_text.specs.States.{TextHasFiniteModel};
 ghost use Rattle.enc_marks.specs.Applies.{Applies};
-ghost use Rattle.enc_pipeline.specs.Way.{Preparation, IsInRange, IsBuilt};
+ghost use Rattle.enc_pipeline.specs.Way.{Preparation, IsInRange, IsWithoutInstances};
 ghost use Rattle.enc_pipeline.specs.Output as specs;
 ghost use Rattle.enc_pipeline.specs.Causes.{nodes_of, IsUnprepared};
 ghost use Rattle.enc_pipeline.specs.Carried as carried;
@@ -99,14 +99,14 @@ impl Prepared {
 /// refused.
 ///
 /// The problem is to be sound, and its names such as can be written and tell its symbols apart,
-/// which holds of each problem that is read; the way is to be built, and its numbers those that the
-/// command line takes.
+/// which holds of each problem that is read; the way is to be one without instances, and its numbers
+/// those that the command line takes.
 pub fn prepare(alloc: Global, problem: Problem, how: How) -> Result<Prepared, Fault>
     requires sound { IsSound problem }
     requires named { HasWritableNames problem }
     requires distinct { HasDistinctNames problem }
     requires range { IsInRange how }
-    requires built { IsBuilt how }
+    requires complete { IsWithoutInstances how }
     ensures exact { IfOk result (λ prepared. prepared ≡ record { problem = problem; how = how }) }
     ensures within { IfOk result (λ prepared. nodes_of problem ≤ most_nodes) }
     ensures applies { IfOk result (λ prepared. Applies how.scheme (normal_of problem)) }

@@ -1,6 +1,6 @@
-//! The schemes that are built, each by its own crate. A new one is an arm of each match here.
+//! The schemes, each by its own crate. A new one is an arm of each match here.
 
-ghost use Rattle.std.specs.Prelude.{◌≡◌, ◌≤◌, ◌<◌, ◌^◌, true, length, IfOk, IfErr};
+ghost use Rattle.std.specs.Prelude.{◌≡◌, ◌≤◌, ◌<◌, ◌^◌, length, IfOk, IfErr};
 ghost use Rattle.enc_base.specs.Counts.{most_entries};
 ghost use Rattle.tf_core.specs.Sound.{IsSoundNormal};
 ghost use Rattle.tf_core.specs.TypedTables.{AreNormalModel};
@@ -12,7 +12,6 @@ ghost use Rattle.enc_marks.specs.Encoded as encoding;
 ghost use Rattle.enc_marks.specs.Schemes.{choices_of};
 ghost use Rattle.enc_models.specs.Lowered.{lowered, lowered_entries, IsRefused};
 ghost use Rattle.enc_models.specs.LiftedTables.{lifted_tables, lifted_entries, IsLiftRefused};
-ghost use Rattle.enc_pipeline.specs.Way as way;
 
 use enc_marks::{Encoded, Refusal, Scheme};
 use fof_models::Structure;
@@ -20,23 +19,8 @@ use std::alloc::Global;
 use tf_core::Normal;
 use tf_models::TypedStructure;
 
-/// Whether the scheme is built.
-pub fn is_built(which: &Scheme) -> bool
-    ensures { result ≡ way.is_built which.now }
-{
-    match which {
-        Scheme::Guards => true,
-        Scheme::Tags => true,
-        Scheme::GuardsCover => true,
-        Scheme::TagsCover => true,
-        Scheme::Args => true,
-        _ => false,
-    }
-}
-
 /// The translation of a normal problem.
 pub(crate) fn encode(alloc: Global, which: &Scheme, normal: &Normal) -> Result<Encoded, Refusal>
-    requires built { way.is_built which.now ≡ true }
     requires sound { IsSoundNormal normal.now }
     ensures exact { IfOk result (λ made.
         made ≡ encoding.encoded (choices_of which.now normal.now) normal.now) }
@@ -49,7 +33,11 @@ pub(crate) fn encode(alloc: Global, which: &Scheme, normal: &Normal) -> Result<E
         Scheme::GuardsCover => enc_cover::encode(alloc, Scheme::GuardsCover, normal),
         Scheme::TagsCover => enc_cover::encode(alloc, Scheme::TagsCover, normal),
         Scheme::Args => enc_args::encode(alloc, Scheme::Args, normal),
-        _ => unreachable!(),
+        Scheme::Erase => enc_args::encode(alloc, Scheme::Erase, normal),
+        Scheme::GuardsLight => enc_light::encode(alloc, Scheme::GuardsLight, normal),
+        Scheme::TagsLight => enc_light::encode(alloc, Scheme::TagsLight, normal),
+        Scheme::GuardsFeather => enc_feather::encode(alloc, Scheme::GuardsFeather, normal),
+        Scheme::TagsFeather => enc_feather::encode(alloc, Scheme::TagsFeather, normal),
     }
 }
 
@@ -61,7 +49,6 @@ pub(crate) fn lower(
     encoded: &Encoded,
     model: &TypedStructure,
 ) -> Result<Structure, Refusal>
-    requires built { way.is_built which.now ≡ true }
     requires applies { Applies which.now normal.now }
     requires sound { IsSoundNormal normal.now }
     requires encoded { encoded.now ≡ encoding.encoded (choices_of which.now normal.now) normal.now }
@@ -82,7 +69,17 @@ pub(crate) fn lower(
         Scheme::GuardsCover => enc_cover::lower(alloc, Scheme::GuardsCover, normal, encoded, model),
         Scheme::TagsCover => enc_cover::lower(alloc, Scheme::TagsCover, normal, encoded, model),
         Scheme::Args => enc_args::lower(alloc, Scheme::Args, normal, encoded, model),
-        _ => unreachable!(),
+        Scheme::Erase => enc_args::lower(alloc, Scheme::Erase, normal, encoded, model),
+        Scheme::GuardsLight => {
+            enc_light::lower(alloc, Scheme::GuardsLight, normal, encoded, model)
+        }
+        Scheme::TagsLight => enc_light::lower(alloc, Scheme::TagsLight, normal, encoded, model),
+        Scheme::GuardsFeather => {
+            enc_feather::lower(alloc, Scheme::GuardsFeather, normal, encoded, model)
+        }
+        Scheme::TagsFeather => {
+            enc_feather::lower(alloc, Scheme::TagsFeather, normal, encoded, model)
+        }
     }
 }
 
@@ -94,7 +91,6 @@ pub(crate) fn lift(
     encoded: &Encoded,
     model: &Structure,
 ) -> Result<TypedStructure, Refusal>
-    requires built { way.is_built which.now ≡ true }
     requires applies { Applies which.now normal.now }
     requires sound { IsSoundNormal normal.now }
     requires encoded { encoded.now ≡ encoding.encoded (choices_of which.now normal.now) normal.now }
@@ -113,6 +109,14 @@ pub(crate) fn lift(
         Scheme::GuardsCover => enc_cover::lift(alloc, Scheme::GuardsCover, normal, encoded, model),
         Scheme::TagsCover => enc_cover::lift(alloc, Scheme::TagsCover, normal, encoded, model),
         Scheme::Args => enc_args::lift(alloc, Scheme::Args, normal, encoded, model),
-        _ => unreachable!(),
+        Scheme::Erase => enc_args::lift(alloc, Scheme::Erase, normal, encoded, model),
+        Scheme::GuardsLight => enc_light::lift(alloc, Scheme::GuardsLight, normal, encoded, model),
+        Scheme::TagsLight => enc_light::lift(alloc, Scheme::TagsLight, normal, encoded, model),
+        Scheme::GuardsFeather => {
+            enc_feather::lift(alloc, Scheme::GuardsFeather, normal, encoded, model)
+        }
+        Scheme::TagsFeather => {
+            enc_feather::lift(alloc, Scheme::TagsFeather, normal, encoded, model)
+        }
     }
 }

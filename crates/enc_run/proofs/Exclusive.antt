@@ -1,7 +1,6 @@
--- A job leads to one thing alone: it is refused for one reason, the task isn't built for its problem,
--- or it has an output.
+-- A job leads to one thing alone: it is refused for one reason, or it has an output.
 use Rattle.std.specs.Prelude.{IfSome, IsSomeAnd}
-use Rattle.std.proofs.Common.{◌≡◌, ◌<◌, ◌≤◌, ◌∙◌, ◌⊎◌, inl, inr, ℕ, true, List, [], ◌∷◌, Option, Some, None, Ok, Err, refl, sym, ap, subst, arith}
+use Rattle.std.proofs.Common.{◌≡◌, ◌<◌, ◌∙◌, ◌⊎◌, inl, inr, ℕ, true, List, [], ◌∷◌, Option, Some, None, Ok, Err, refl, sym, ap, subst, arith}
 use Rattle.std.proofs.lemmas.Option.{same_Some}
 use Rattle.enc_base.specs.Counts.{in_64_bits}
 use Rattle.tptp_syntax.specs.declared.entry.File.{File}
@@ -17,14 +16,14 @@ use Rattle.tf_nnf.specs.NormalForm.{normal_of}
 use Rattle.tf_nnf.specs.Refusal.{most_nodes}
 use Rattle.enc_marks.specs.declared.refusal.Refusal.{Refusal}
 use Rattle.enc_marks.specs.declared.scheme.Scheme.{Scheme}
+use Rattle.enc_marks.specs.Applies.{Applies}
 use Rattle.enc_pipeline.specs.declared.fault.Fault.{Fault}
 use Rattle.enc_pipeline.specs.declared.fault.Fault.TheVariants as fault
 use Rattle.enc_pipeline.specs.Reading.{HasProblem}
-use Rattle.enc_pipeline.specs.Causes.{IsFirstFault, IsUnreadable, nodes_of}
+use Rattle.enc_pipeline.specs.Causes.{IsFirstFault, nodes_of}
 use Rattle.enc_pipeline.proofs.Applied.{one_scheme_refusal}
-use Rattle.enc_run.specs.Leads.{Lead, LeadsTo, RefusesProblem, IsRefusedBy, IsTableRefusedBy, IsUnbuilt, IsAccepted, IsAcceptable, IsOutputOf, is_taken, is_normalised, task_scheme, IsApplied, RefusesBy}
+use Rattle.enc_run.specs.Leads.{Lead, LeadsTo, RefusesProblem, IsRefusedBy, IsTableRefusedBy, IsAccepted, IsAcceptable, IsOutputOf, is_normalised, task_scheme, RefusesBy}
 use Rattle.enc_run.specs.declared.job.Task.{Task}
-use Rattle.enc_run.proofs.Leads.{takes_each}
 use Rattle.enc_run.proofs.TableLaws.{one_refusal, not_both}
 
 -- ---- a text leads to one thing
@@ -129,7 +128,6 @@ there (Some item) P holds = (item, refl, holds)
 module _ (task : Task) where
   -- what a problem with too many nodes is
   record TooMany (problem : Problem) (reason : Fault) : Type 0 where
-    taken : is_taken task problem ≡ true
     normalised : is_normalised task ≡ true
     many : most_nodes < nodes_of problem
     reason_is : reason ≡ fault.TooLarge (in_64_bits (nodes_of problem))
@@ -145,10 +143,9 @@ module _ (task : Task) where
   refusals : (problem : Problem) (reason : Fault) → RefusesProblem task problem reason
       → TooMany problem reason ⊎ Unsuited problem reason
   refusals problem (fault.TooLarge nodes) large = inl (record {
-    taken = large.0;
-    normalised = large.1;
-    many = large.2;
-    reason_is = ap fault.TooLarge large.3;
+    normalised = large.0;
+    many = large.1;
+    reason_is = ap fault.TooLarge large.2;
   })
   refusals problem (fault.Scheme reason) refused =
       let by = there (task_scheme task) (λ which. RefusesBy which problem reason) refused in
@@ -167,23 +164,15 @@ module _ (task : Task) where
   refusals problem fault.Write refused = absurd refused
   refusals problem fault.Memory refused = absurd refused
 
-  -- a problem that is refused is one for which the task is built
-  refused_taken : (problem : Problem) (reason : Fault)
-      → TooMany problem reason ⊎ Unsuited problem reason → is_taken task problem ≡ true
-  refused_taken problem reason (inl large) = large.taken
-  refused_taken problem reason (inr unsuited) =
-      takes_each task problem unsuited.which unsuited.scheme_is unsuited.refused.0.built
-
   accepted_unrefused : (problem : Problem) (reason : Fault)
       → TooMany problem reason ⊎ Unsuited problem reason → IsAccepted task problem → ⊥
   accepted_unrefused problem reason (inl large) accepted =
       let many = large.many in
       let few = accepted.within large.normalised in absurd (omega arith)
   accepted_unrefused problem reason (inr unsuited) accepted =
-      let applies : IsApplied unsuited.which problem =
-      subst (λ found. IfSome found (λ which. IsApplied which problem)) unsuited.scheme_is
-      accepted.applies in
-      unsuited.refused.0.unapplied (applies unsuited.refused.0.built)
+      unsuited.refused.0.unapplied
+      (subst (λ found. IfSome found (λ which. Applies which (normal_of problem)))
+      unsuited.scheme_is accepted.applies)
 
   many_or_unsuited : (problem : Problem) (a b : Fault) → TooMany problem a → Unsuited problem b → ⊥
   many_or_unsuited problem a b large unsuited =
@@ -213,21 +202,11 @@ module _ (task : Task) where
 
   -- ---- by the problem's source
 
-  pub refused_not_unbuilt : (source : Lead) (reason : Fault) → IsRefusedBy task reason source
-      → IsUnbuilt task source → ⊥
-  refused_not_unbuilt (Ok problem) reason refused unbuilt =
-      let taken = refused_taken problem reason (refusals problem reason refused) in cc
-  refused_not_unbuilt (Err other) reason refused unbuilt = unbuilt
-
   pub refused_not_accepted : (source : Lead) (reason : Fault) → IsRefusedBy task reason source
       → IsAcceptable task source → ⊥
   refused_not_accepted (Ok problem) reason refused accepted =
       accepted_unrefused problem reason (refusals problem reason refused) accepted
   refused_not_accepted (Err other) reason refused accepted = accepted
-
-  pub unbuilt_not_accepted : (source : Lead) → IsUnbuilt task source → IsAcceptable task source → ⊥
-  unbuilt_not_accepted (Ok problem) unbuilt accepted = let taken = accepted.taken in cc
-  unbuilt_not_accepted (Err other) unbuilt accepted = accepted
 
   -- only one reason stands
   pub refused_once : (source : Lead) (a b : Fault) → IsRefusedBy task a source

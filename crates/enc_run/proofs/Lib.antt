@@ -1,17 +1,5 @@
 pub mod Exclusive
 pub mod Readings
-pub mod ErasedEquations
-pub mod ErasedLifted
-pub mod ErasedLowered
-pub mod ErasedMarks
-pub mod ErasedModels
-pub mod ErasedSound
-pub mod ErasedTruth
-pub mod PlainCounts
-pub mod PlainNormal
-pub mod PlainSignature
-pub mod WritableNames
-pub mod Translated
 pub mod Headline
 pub mod Leads
 pub mod TextEndings

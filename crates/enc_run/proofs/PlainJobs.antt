@@ -4,8 +4,8 @@ use Rattle.std.specs.Prelude.{if◌then◌else◌, ◌&&◌}
 use Rattle.std.specs.Str.{bytes_eq}
 use Rattle.enc_marks.specs.declared.scheme.Scheme.{Scheme}
 use Rattle.enc_marks.specs.declared.scheme.Scheme.TheVariants as scheme
-use Rattle.enc_pipeline.specs.Way.{is_built, plain_way}
-use Rattle.enc_run.specs.Job.{encoding_of, carrying_in, carrying_of, table_task_of, with_problem, with_both, is_standard_input, scheme_of, job_of}
+use Rattle.enc_pipeline.specs.Way.{plain_way}
+use Rattle.enc_run.specs.Job.{encoding_of, carrying_of, table_task_of, with_problem, with_both, is_standard_input, scheme_of, job_of}
 use Rattle.enc_run.specs.Calls.Parts.{IsPlainTask}
 use Rattle.enc_run.specs.declared.job.Job.{Job}
 use Rattle.enc_run.specs.declared.job.Task.{Task}
@@ -31,10 +31,8 @@ carrying_plain : (action table : List ℕ) (which : Option Scheme)
     → IsPlainOption (carrying_of action table which)
 carrying_plain action table None = tt
 carrying_plain action table (Some which) =
-    plain_if (is_built which) (carrying_in action table (plain_way which)) None
-    (plain_if (bytes_eq action (codes "lower")) (Some (Lower table (plain_way which))) _ refl
-    (plain_if (bytes_eq action (codes "lift")) (Some (Lift table (plain_way which))) None refl tt))
-    tt
+    plain_if (bytes_eq action (codes "lower")) (Some (Lower table (plain_way which))) _ refl
+    (plain_if (bytes_eq action (codes "lift")) (Some (Lift table (plain_way which))) None refl tt)
 
 table_task_plain : (action table : List ℕ) → IsPlainOption (table_task_of action table)
 table_task_plain action table =

@@ -1,15 +1,15 @@
 -- What a run promises of its status and its output follows from how it ended.
-use Rattle.std.proofs.Common.{◌≡◌, ◌⊎◌, inl, inr, ℕ, List, Option, Some, None, Ok, Err, refl, ap, subst, arith}
+use Rattle.std.proofs.Common.{◌≡◌, inl, inr, ℕ, List, Option, Some, None, Ok, Err, refl, ap, subst, arith}
 use Rattle.std.specs.Io.KnownBytes.{Appends}
 use Rattle.enc_base.specs.Library.{Files, IsHeld}
 use Rattle.enc_base.specs.Sink.{AppendsPrefix}
 use Rattle.enc_pipeline.specs.declared.fault.Fault.{Fault}
 use Rattle.enc_pipeline.specs.declared.fault.Fault.TheVariants as fault
 use Rattle.enc_run.specs.Source.{IsToldSource, AreToldSource}
-use Rattle.enc_run.specs.Texts.{OfSource, IsOutput}
+use Rattle.enc_run.specs.Texts.{IsOutput}
 use Rattle.enc_run.specs.Calls.Ending.{CountsFaults, EndsBy, status_at, Ended}
 use Rattle.enc_run.specs.Job.{table_name}
-use Rattle.enc_run.specs.Leads.{Lead, IsRefusedBy, IsTableRefusedBy, IsUnbuilt, IsUnsuited, IsAcceptable, IsOutputOf}
+use Rattle.enc_run.specs.Leads.{Lead, IsRefusedBy, IsTableRefusedBy, IsUnsuited, IsAcceptable, IsOutputOf}
 use Rattle.enc_run.specs.Promises.{IsOrMemory, Complete, NotBuiltExactly, RefusedExactly, UnsuitedExactly, UnreadExactly, UnheldIsUnread, UnwrittenOnly, IsStatus, OutHolds, NotesHold}
 use Rattle.enc_run.specs.Statuses.{status_of_refusal}
 use Rattle.enc_run.specs.Work.{Change, Work, Untouched, HasTable, ProblemStands}
@@ -17,7 +17,7 @@ use Rattle.enc_run.specs.Work.{NoneFails}
 use Rattle.enc_run.specs.declared.job.Job.{Job}
 use Rattle.enc_run.specs.declared.job.Task.{Task}
 use Rattle.enc_run.specs.declared.stop.Stop.TheVariants.{NotBuilt, Unread, Refused, Unwritten, Memory}
-use Rattle.enc_run.proofs.Exclusive.{refused_not_unbuilt, refused_not_accepted, unbuilt_not_accepted, table_refused_accepted, output_accepted, refused_once, table_refused_once, table_refused_not_output}
+use Rattle.enc_run.proofs.Exclusive.{refused_not_accepted, table_refused_accepted, output_accepted, refused_once, table_refused_once, table_refused_not_output}
 use Rattle.enc_run.proofs.Noted.{notes_of}
 use Rattle.enc_run.proofs.Statuses.{End, not_refusal, is_status, only_refused, only_unsuited, unsuited_refused}
 use Rattle.enc_run.proofs.Told.{no_job, told, told_both, told_text, text_is_held, table_is_held, table_unread, table_fails}
@@ -93,10 +93,7 @@ unheld : (w : Work) (end : End) → EndsBy w end → (job : Job) (files : Files)
 unheld w (Ok done) ends job files is_job is_told none =
     absurd (none (text_is_held w (ToTable (λ task. IsOutputOf task ends.0) w) job files is_job
     is_told ends.1))
-unheld w (Err NotBuilt) ends job files is_job is_told none = elim ends.0 [
-  | inl jobless ↦ absurd (no_job w job jobless is_job)
-  | inr of ↦ absurd (none (text_is_held w IsUnbuilt job files is_job is_told of))
-]
+unheld w (Err NotBuilt) ends job files is_job is_told none = absurd (no_job w job ends.0 is_job)
 unheld w (Err (Unread name)) ends job files is_job is_told none = inl refl
 unheld w (Err (Refused reason)) ends job files is_job is_told none = elim ends.0 [
   | inl of ↦ absurd (none (text_is_held w (λ task. IsRefusedBy task reason) job files is_job is_told
@@ -116,11 +113,7 @@ unheld_table w (Ok done) ends job source name is_told untroubled acceptable is_n
     let has = told_text w (λ task. IsOutputOf task ends.0) job source ends.1 is_told in
     absurd (none (table_is_held w job source name has.0 is_told is_name has.1))
 unheld_table w (Err NotBuilt) ends job source name is_told untroubled acceptable is_name none =
-    elim ends.0 [
-      | inl jobless ↦ absurd (no_job w job jobless is_told.job_is)
-      | inr of ↦ absurd (unbuilt_not_accepted job.task source (told w IsUnbuilt job source of is_told)
-          acceptable)
-    ]
+    absurd (no_job w job ends.0 is_told.job_is)
 unheld_table w (Err (Unread unread)) ends job source name is_told untroubled acceptable is_name none =
     inl refl
 unheld_table w (Err (Refused reason)) ends job source name is_told untroubled acceptable is_name none =
@@ -153,7 +146,7 @@ at_words w (Err Unwritten) ends none = absurd (no_job w ends.0.0.1.0 none ends.0
 at_words w (Err Memory) ends none = inr refl
 
 only_unbuilt : (w : Work) (end : End) → EndsBy w end → status_at end ≡ 9
-    → (w.job ≡ None) ⊎ OfSource w IsUnbuilt
+    → w.job ≡ None
 only_unbuilt w (Ok done) ends is = absurd (omega arith)
 only_unbuilt w (Err NotBuilt) ends is = ends.0
 only_unbuilt w (Err (Unread name)) ends is = absurd (omega arith)
@@ -172,40 +165,14 @@ accepted_output w output job source of is_told =
     let has = told_text w (λ task. IsOutputOf task output) job source of is_told in
     output_accepted job.task source output has.0 has.2
 
-at_unbuilt : (w : Work) (end : End) → EndsBy w end → (job : Job) (source : Lead)
-    → IsToldSource w job source → ProblemStands w job → IsUnbuilt job.task source
-    → IsOrMemory 9 (status_at end)
-at_unbuilt w (Ok done) ends job source is_told untroubled unbuilt =
-    absurd (unbuilt_not_accepted job.task source unbuilt
-    (accepted_output w ends.0 job source ends.1 is_told))
-at_unbuilt w (Err NotBuilt) ends job source is_told untroubled unbuilt = inl refl
-at_unbuilt w (Err (Unread name)) ends job source is_told untroubled unbuilt =
-    let table = table_unread w name job source ends.0.0 ends.0.1 is_told untroubled in
-    absurd (unbuilt_not_accepted job.task source unbuilt table.1)
-at_unbuilt w (Err (Refused reason)) ends job source is_told untroubled unbuilt = elim ends.0 [
-  | inl of ↦ absurd (refused_not_unbuilt job.task source reason
-      (told w (λ task. IsRefusedBy task reason) job source of is_told) unbuilt)
-  | inr of ↦
-      let has = told_text w (λ task. IsTableRefusedBy task reason) job source of is_told in
-      absurd (unbuilt_not_accepted job.task source unbuilt
-      (table_refused_accepted job.task source reason has.0 has.2))
-]
-at_unbuilt w (Err Unwritten) ends job source is_told untroubled unbuilt =
-    absurd (unbuilt_not_accepted job.task source unbuilt
-    (accepted_output w ends.0.0.0 job source ends.0.0.1 is_told))
-at_unbuilt w (Err Memory) ends job source is_told untroubled unbuilt = inr refl
-
 at_refused : (w : Work) (end : End) → EndsBy w end → (job : Job) (source : Lead)
     (reason : Fault) → IsToldSource w job source → ProblemStands w job
     → IsRefusedBy job.task reason source → IsOrMemory (status_of_refusal reason) (status_at end)
 at_refused w (Ok done) ends job source reason is_told untroubled refused =
     absurd (refused_not_accepted job.task source reason refused
     (accepted_output w ends.0 job source ends.1 is_told))
-at_refused w (Err NotBuilt) ends job source reason is_told untroubled refused = elim ends.0 [
-  | inl none ↦ absurd (no_job w job none is_told.job_is)
-  | inr of ↦ absurd (refused_not_unbuilt job.task source reason refused
-      (told w IsUnbuilt job source of is_told))
-]
+at_refused w (Err NotBuilt) ends job source reason is_told untroubled refused =
+    absurd (no_job w job ends.0 is_told.job_is)
 at_refused w (Err (Unread name)) ends job source reason is_told untroubled refused =
     let table = table_unread w name job source ends.0.0 ends.0.1 is_told untroubled in
     absurd (refused_not_accepted job.task source reason refused table.1)
@@ -248,12 +215,7 @@ at_table_refused w (Ok done) ends job source table reason are_told none refused 
     absurd (table_refused_not_output job.task source table reason ends.0 refused
     (told_both w (λ task. IsOutputOf task ends.0) job source table ends.1 are_told))
 at_table_refused w (Err NotBuilt) ends job source table reason are_told none refused =
-    elim ends.0 [
-      | inl jobless ↦ absurd (no_job w job jobless are_told.told.job_is)
-      | inr of ↦ absurd (unbuilt_not_accepted job.task source
-          (told w IsUnbuilt job source of are_told.told)
-          (table_refused_accepted job.task source reason table refused))
-    ]
+    absurd (no_job w job ends.0 are_told.told.job_is)
 at_table_refused w (Err (Unread name)) ends job source table reason are_told none refused =
     absurd (all_read w name job source table ends are_told none)
 at_table_refused w (Err (Refused other)) ends job source table reason are_told none refused =
@@ -273,12 +235,7 @@ at_table_refused w (Err Memory) ends job source table reason are_told none refus
 complete : (w : Work) (end : End) → EndsBy w end → Complete w (status_at end)
 complete w (Ok done) ends job source table output are_told is_output none written = inl refl
 complete w (Err NotBuilt) ends job source table output are_told is_output none written =
-    elim ends.0 [
-      | inl jobless ↦ absurd (no_job w job jobless are_told.told.job_is)
-      | inr of ↦ absurd (unbuilt_not_accepted job.task source
-          (told w IsUnbuilt job source of are_told.told)
-          (output_accepted job.task source output table is_output))
-    ]
+    absurd (no_job w job ends.0 are_told.told.job_is)
 complete w (Err (Unread name)) ends job source table output are_told is_output none written =
     absurd (all_read w name job source table ends are_told none)
 complete w (Err (Refused reason)) ends job source table output are_told is_output none written =
@@ -309,7 +266,6 @@ module _
     pub not_built_exactly : NotBuiltExactly w status
     not_built_exactly = at_status (NotBuiltExactly w) (record {
       at_words = at_words w ended.end ended.ends;
-      at_source = at_unbuilt w ended.end ended.ends;
       only = only_unbuilt w ended.end ended.ends;
     })
 

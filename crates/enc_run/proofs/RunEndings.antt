@@ -6,7 +6,7 @@ use Rattle.enc_base.specs.Library.{Files, Gives, IsHeld}
 use Rattle.enc_run.specs.Texts.{OfSource, OfTexts, Fails, ReadsAsNeeded}
 use Rattle.enc_run.specs.Calls.Ending.{CountsFaults, EndsBy, IsUnread}
 use Rattle.enc_run.specs.Job.{table_name}
-use Rattle.enc_run.specs.Leads.{Lead, IsRefusedBy, IsTableRefusedBy, IsUnbuilt, IsAcceptable, IsOutputOf}
+use Rattle.enc_run.specs.Leads.{Lead, IsRefusedBy, IsTableRefusedBy, IsAcceptable, IsOutputOf}
 use Rattle.enc_run.specs.Calls.Parts.{Led, TextEnds, ReadsTable}
 use Rattle.enc_run.specs.Work.{Change, Work, Rises, OwnRises, Untouched, GoesOn, HasText, HasTable, OfName, KeepsCounts}
 use Rattle.enc_run.specs.declared.job.Job.{Job}
@@ -137,7 +137,7 @@ module _ (w : Work) (job : Job) (is_job : w.job ≡ Some job) where
       of_texts (λ task. IsOutputOf task ends.0) ends.1.0 ends.1.1 ends.1.2,
       ends.2,
     )
-    run_ends later own_later (Err NotBuilt) ends = (inr (of_source IsUnbuilt ends.0), ends.1)
+    run_ends later own_later (Err NotBuilt) ends = absurd ends
     run_ends later own_later (Err (Unread name)) ends = (
       (
         inr (of_source

@@ -1,22 +1,21 @@
 -- What a table's text leads to for a problem: one thing alone, and what is carried is a model.
-use Rattle.std.proofs.Common.{◌≡◌, ◌≤◌, ℕ, true, List, refl}
+use Rattle.std.proofs.Common.{◌≡◌, ◌≤◌, ℕ, List}
 use Rattle.tf_core.specs.declared.problem.Problem.{Problem}
+use Rattle.tf_nnf.specs.NormalForm.{normal_of}
 use Rattle.tf_nnf.specs.Refusal.{most_nodes}
-use Rattle.enc_marks.specs.declared.scheme.Scheme.{Scheme}
+use Rattle.enc_marks.specs.Applies.{Applies}
 use Rattle.enc_pipeline.specs.declared.fault.Fault.{Fault}
-use Rattle.enc_pipeline.specs.Carried.{translation}
 use Rattle.enc_pipeline.specs.declared.how.How.{How}
 use Rattle.enc_pipeline.specs.Causes.{nodes_of}
-use Rattle.enc_pipeline.specs.Way.{is_built}
 use Rattle.enc_pipeline.specs.Reading.{HasProblem}
 use Rattle.enc_pipeline.specs.Ready.{IsPrepared}
 use Rattle.enc_pipeline.proofs.DistinctNames.{has_distinct_names}
 use Rattle.enc_pipeline.proofs.FileProblems.{has_writable_names}
 use Rattle.enc_pipeline.proofs.OneAnswer.{checking_has_one_answer, lowering_has_one_answer, lifting_has_one_answer}
-use Rattle.enc_run.specs.Leads.{RefusesTable, Writes, preparation, untyped_problem, IsApplied}
+use Rattle.enc_run.specs.Leads.{RefusesTable, Writes, preparation}
 use Rattle.enc_run.specs.declared.job.Task.{Task}
 use Rattle.enc_run.specs.declared.job.Task.TheVariants.{Encode, Check, Lower, Lift}
-use Rattle.enc_run.proofs.Leads.{is_translated, sound_problem}
+use Rattle.enc_run.proofs.Leads.{sound_problem}
 
 -- ---- one answer
 
@@ -46,20 +45,14 @@ not_both (Lift name how) problem table reason output refused written =
 
 -- ---- what is carried
 
--- models are carried to the translation that is written
-pub carried_as_encoded : (how : How) (problem : Problem) → is_built how.scheme ≡ true
-    → translation (preparation how problem) ≡ untyped_problem how.scheme problem
-carried_as_encoded how problem built = is_translated how.scheme problem built
-
--- a text's problem within the limit is prepared in a way that is built and whose scheme applies to it
+-- a text's problem within the limit is prepared in a way whose scheme applies to it
 pub is_prepared : (how : How) (text : List ℕ) (problem : Problem) → HasProblem text problem
-    → is_built how.scheme ≡ true → nodes_of problem ≤ most_nodes
-    → IsApplied how.scheme problem → IsPrepared (preparation how problem)
-is_prepared how text problem has built within applies = record {
+    → nodes_of problem ≤ most_nodes → Applies how.scheme (normal_of problem)
+    → IsPrepared (preparation how problem)
+is_prepared how text problem has within applies = record {
   sound = sound_problem text problem has;
   named = has_writable_names text problem has;
   distinct = has_distinct_names text problem has;
   within = within;
-  built = built;
-  applies = applies built;
+  applies = applies;
 }

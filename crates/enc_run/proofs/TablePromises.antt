@@ -1,13 +1,7 @@
 -- What a run promises of models that it reads from tables and carries follows from how it ended.
 use Rattle.std.proofs.Common.{◌≡◌, ◌∙◌, ℕ, List, Option, Ok, Err, refl, subst}
 use Rattle.std.specs.Io.KnownBytes.{Appends}
-use Rattle.fof_models.specs.declared.problem.FofProblem.{FofProblem}
-use Rattle.fof_models.specs.Models.{AreModel}
-use Rattle.fof_text.specs.Names.{chosen_names}
-use Rattle.model_tables.specs.Untyped.{IsUntypedTable}
-use Rattle.enc_models.specs.Lowered.{lowered}
 use Rattle.enc_pipeline.specs.declared.how.How.{How}
-use Rattle.enc_pipeline.specs.Carried.{written_normal, choices}
 use Rattle.enc_pipeline.proofs.Rewritten.{lowered_tables_are_of_models, lifted_tables_are_of_models}
 use Rattle.enc_run.specs.Calls.Ending.{Ended}
 use Rattle.enc_run.specs.Leads.{Lead, LeadsTo, IsOutputOf, preparation}
@@ -18,7 +12,7 @@ use Rattle.enc_run.specs.declared.job.Task.{Task}
 use Rattle.enc_run.specs.declared.job.Task.TheVariants.{Check, Lower, Lift}
 use Rattle.enc_run.proofs.Exclusive.{same_problem}
 use Rattle.enc_run.proofs.Readings.{whole}
-use Rattle.enc_run.proofs.TableLaws.{is_prepared, carried_as_encoded}
+use Rattle.enc_run.proofs.TableLaws.{is_prepared}
 use Rattle.enc_run.proofs.Told.{told_texts}
 
 -- ---- one output
@@ -41,11 +35,8 @@ module _ (how : How) (name text table output : List ℕ) (out : Change (Option (
       → Appends out.before out.after output → IsLowered how text table out
   lowered_to (Err reason) has is written = absurd is
   lowered_to (Ok problem) has is written =
-      let prepared = is_prepared how text problem has is.0.taken (is.0.within refl) is.0.applies in
+      let prepared = is_prepared how text problem has (is.0.within refl) is.0.applies in
       let model = lowered_tables_are_of_models (preparation how problem) table output prepared is.1 in
-      let structure = lowered (choices (preparation how problem))
-      (written_normal (preparation how problem)) is.1.extension in
-      let same = carried_as_encoded how problem is.0.taken in
       record {
         problem = problem;
         has = has;
@@ -53,16 +44,15 @@ module _ (how : How) (name text table output : List ℕ) (out : Change (Option (
         output = output;
         carried = is.1;
         written = written;
-        is_table = subst (λ (p : FofProblem). IsUntypedTable output p (chosen_names p.signature)
-            structure) same model.is_table;
-        is_model = subst (λ (p : FofProblem). AreModel p structure) same model.is_model;
+        is_table = model.is_table;
+        is_model = model.is_model;
       }
 
   lifted_to : (source : Lead) → LeadsTo text source → IsOutputOf (Lift name how) output source table
       → Appends out.before out.after output → IsLifted how text table out
   lifted_to (Err reason) has is written = absurd is
   lifted_to (Ok problem) has is written =
-      let prepared = is_prepared how text problem has is.0.taken (is.0.within refl) is.0.applies in
+      let prepared = is_prepared how text problem has (is.0.within refl) is.0.applies in
       let model = lifted_tables_are_of_models (preparation how problem) table output prepared is.1 in
       record {
         problem = problem;

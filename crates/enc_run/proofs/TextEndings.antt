@@ -1,36 +1,31 @@
 -- How the end of a part of a task on a problem's text makes the end of the task.
-use Rattle.std.proofs.Common.{◌≡◌, ◌≤◌, ◌∙◌, inl, inr, ℕ, List, Option, Some, Result, Ok, Err, true, refl, sym, ap, subst}
+use Rattle.std.proofs.Common.{◌≡◌, ◌∙◌, inl, inr, ℕ, List, Option, Some, Result, Ok, Err, refl, sym, ap, subst}
 use Rattle.std.specs.Prelude.{[], IsSomeAnd}
 use Rattle.std.specs.Io.KnownBytes.{Appends}
 use Rattle.enc_base.specs.Library.{IsHeld}
 use Rattle.tf_core.specs.declared.problem.Problem.{Problem}
-use Rattle.tf_core.specs.Sound.{IsSound}
-use Rattle.tf_nnf.specs.NormalForm.{normal_of}
-use Rattle.tf_nnf.specs.Refusal.{most_nodes}
-use Rattle.fof_models.specs.declared.problem.FofProblem.{FofProblem}
 use Rattle.enc_marks.specs.declared.scheme.Scheme.{Scheme}
-use Rattle.enc_marks.specs.Applies.{Applies}
 use Rattle.enc_pipeline.specs.Carried.{IsLoweredTo, IsUnlowered, IsLiftedTo, IsUnlifted}
-use Rattle.enc_pipeline.specs.Causes.{IsUnreadable, IsUnprepared, nodes_of}
-use Rattle.enc_pipeline.specs.Output.{output, output_of}
+use Rattle.enc_pipeline.specs.Causes.{IsUnreadable, IsUnprepared}
+use Rattle.enc_pipeline.specs.Output.{output}
 use Rattle.enc_pipeline.specs.Reading.{HasProblem}
 use Rattle.enc_pipeline.specs.Stopped.{IsStopped}
-use Rattle.enc_pipeline.specs.Way.{Preparation, is_built}
+use Rattle.enc_pipeline.specs.Way.{Preparation}
 use Rattle.enc_pipeline.specs.declared.how.How.{How}
 use Rattle.enc_pipeline.specs.declared.fault.Fault.{Fault}
 use Rattle.enc_pipeline.specs.declared.fault.Fault.TheVariants as fault
 use Rattle.enc_run.specs.Calls.Ending.{IsUnread}
 use Rattle.enc_run.specs.Job.{table_name}
-use Rattle.enc_run.specs.Leads.{is_taken, is_normalised, task_scheme, IsAccepted, IsAcceptable}
-use Rattle.enc_run.specs.Leads.{RefusesBy, RefusesTable, Writes, encodes, preparation, untyped_problem}
-use Rattle.enc_run.specs.Calls.Parts.{Led, LedToOutput, ProblemEnds, ProblemStops, IsWritten, EncodingEnds, HasPrepared, TextStops, TextEnds}
+use Rattle.enc_run.specs.Leads.{task_scheme, IsAccepted, IsAcceptable}
+use Rattle.enc_run.specs.Leads.{RefusesBy, RefusesTable, Writes}
+use Rattle.enc_run.specs.Calls.Parts.{Led, LedToOutput, EncodingEnds, HasPrepared, TextStops, TextEnds}
 use Rattle.enc_run.specs.Stop.{stop_of}
 use Rattle.enc_run.specs.Work.{Change, Work, Rises, OwnRises, Untouched, HasText, HasTable}
 use Rattle.enc_run.specs.declared.job.Task.{Task}
 use Rattle.enc_run.specs.declared.job.Task.TheVariants.{Encode, Check, Lower, Lift}
 use Rattle.enc_run.specs.declared.stop.Stop.{Stop}
 use Rattle.enc_run.specs.declared.stop.Stop.TheVariants.{NotBuilt, Unread, Refused, Unwritten, Memory}
-use Rattle.enc_run.proofs.Leads.{is_encoded, is_translated, is_refused, sound_problem}
+use Rattle.enc_run.proofs.Leads.{rests_on_normal, is_refused, sound_problem}
 
 -- a text that has no problem stops each task
 pub unreadable_stops : (task : Task) (text : List ℕ) (reason : Fault) → IsUnreadable text reason
@@ -47,36 +42,33 @@ unreadable_stops task text (fault.NotModel formula) unread = absurd unread
 unreadable_stops task text fault.Write unread = absurd unread
 unreadable_stops task text fault.Memory unread = tt
 
--- a problem that can't be prepared in a way that is built stops each task that rests on its normal
--- problem
+-- a problem that can't be prepared stops each task in its way
 module _ (task : Task) (text : List ℕ) (problem : Problem) (has : HasProblem text problem)
-    (taken : is_taken task problem ≡ true) (normalised : is_normalised task ≡ true) (how : How)
-    (scheme_is : task_scheme task ≡ Some how.scheme) where
-  pub unprepared_stops : is_built how.scheme ≡ true → (reason : Fault)
-      → IsUnprepared problem how reason → TextStops task text (stop_of reason)
-  unprepared_stops built (fault.Reading reason) why = absurd why
-  unprepared_stops built (fault.Typing reason) why = absurd why
-  unprepared_stops built (fault.TooLarge nodes) why =
-      (Ok problem, has, (taken, normalised, why.0, why.1))
-  unprepared_stops built (fault.Scheme reason) why = (
+    (how : How) (scheme_is : task_scheme task ≡ Some how.scheme) where
+  pub unprepared_stops : (reason : Fault) → IsUnprepared problem how reason
+      → TextStops task text (stop_of reason)
+  unprepared_stops (fault.Reading reason) why = absurd why
+  unprepared_stops (fault.Typing reason) why = absurd why
+  unprepared_stops (fault.TooLarge nodes) why =
+      (Ok problem, has, (rests_on_normal task how.scheme scheme_is, why.0, why.1))
+  unprepared_stops (fault.Scheme reason) why = (
     Ok problem,
     has,
     subst (λ (found : Option Scheme). IsSomeAnd found (λ which. RefusesBy which problem reason))
         (sym scheme_is)
-        (is_refused how.scheme problem built (sound_problem text problem has) why.0 reason why.1
-        why.2),
+        (is_refused how.scheme problem (sound_problem text problem has) why.0 reason why.1 why.2),
   )
-  unprepared_stops built fault.Incomplete why = absurd why
-  unprepared_stops built (fault.Table reason) why = absurd why
-  unprepared_stops built (fault.NotModel formula) why = absurd why
-  unprepared_stops built fault.Write why = absurd why
-  unprepared_stops built fault.Memory why = tt
+  unprepared_stops fault.Incomplete why = absurd why
+  unprepared_stops (fault.Table reason) why = absurd why
+  unprepared_stops (fault.NotModel formula) why = absurd why
+  unprepared_stops fault.Write why = absurd why
+  unprepared_stops fault.Memory why = tt
 
 module _ (task : Task) (text : List ℕ) (w : Work) where
   -- the task is stopped by its problem's text
   pub text_stopped : (stop : Stop) → TextStops task text stop → Untouched w.out w.out_faults
       → TextEnds task text w (Err stop)
-  text_stopped NotBuilt stops kept = (stops, kept)
+  text_stopped NotBuilt stops kept = absurd stops
   text_stopped (Unread name) stops kept = absurd stops
   text_stopped (Refused reason) stops kept = (inl stops, kept)
   text_stopped Unwritten stops kept = absurd stops
@@ -132,28 +124,20 @@ module _ (task : Task) (text : List ℕ) (w : Work) where
 
 -- each problem is accepted to be checked
 pub checked : (name : List ℕ) (problem : Problem) → IsAccepted (Check name) problem
-checked name problem = record { taken = refl; within = λ normalised. absurd cc; applies = tt }
+checked name problem = record { within = λ normalised. absurd cc; applies = tt }
 
 -- ---- lower and lift
 
 module _ (how : How) (name text : List ℕ) (p : Preparation) (is : HasPrepared how text p)
   where
     lowered : IsAccepted (Lower name how) is.problem
-    lowered = record {
-      taken = is.taken;
-      within = λ normalised. is.within;
-      applies = λ built. is.applies;
-    }
+    lowered = record { within = λ normalised. is.within; applies = is.applies }
 
     pub lowerable : Led text (IsAcceptable (Lower name how))
     lowerable = (Ok is.problem, is.has, lowered)
 
     lifted : IsAccepted (Lift name how) is.problem
-    lifted = record {
-      taken = is.taken;
-      within = λ normalised. is.within;
-      applies = λ built. is.applies;
-    }
+    lifted = record { within = λ normalised. is.within; applies = is.applies }
 
     pub liftable : Led text (IsAcceptable (Lift name how))
     liftable = (Ok is.problem, is.has, lifted)
@@ -191,103 +175,30 @@ module _ (how : How) (name text : List ℕ) (p : Preparation) (is : HasPrepared 
 
 -- ---- encode
 
--- the encoding of a problem in a way that is built
-module _ (how : How) (problem : Problem) (built : is_built how.scheme ≡ true)
-    (sound : IsSound problem) where
-  -- what isn't prepared stops it
-  pub unprepared : (reason : Fault) → IsUnprepared problem how reason
-      → ProblemStops how.scheme problem (stop_of reason)
-  unprepared (fault.Reading reason) why = absurd why
-  unprepared (fault.Typing reason) why = absurd why
-  unprepared (fault.TooLarge nodes) why =
-      (is_encoded how.scheme problem built, why.0, why.1)
-  unprepared (fault.Scheme reason) why =
-      is_refused how.scheme problem built sound why.0 reason why.1 why.2
-  unprepared fault.Incomplete why = absurd why
-  unprepared (fault.Table reason) why = absurd why
-  unprepared (fault.NotModel formula) why = absurd why
-  unprepared fault.Write why = absurd why
-  unprepared fault.Memory why = tt
-
-  -- so much of its output is so much of its encoding
-  pub written : (Part : List ℕ → Type 0) → nodes_of problem ≤ most_nodes
-      → Applies how.scheme (normal_of problem) → Part (output (preparation how problem)) → IsWritten how.scheme problem Part
-  written Part within applies part = record {
-    taken = is_encoded how.scheme problem built;
-    within = within;
-    applies = λ is. applies;
-    written =
-        subst (λ (p : FofProblem). Part (output_of how.scheme p))
-        (is_translated how.scheme problem built) part;
-  }
-
--- a problem that stops its encoding ends it
-module _ (which : Scheme) (problem : Problem) (out : Change (Option (List ℕ))) (faults : Change ℕ)
-  where
-    pub problem_stopped : (stop : Stop) → ProblemStops which problem stop → Untouched out faults
-        → ProblemEnds which problem out faults (Err stop)
-    problem_stopped NotBuilt stops kept = (stops, kept)
-    problem_stopped (Unread name) stops kept = absurd stops
-    problem_stopped (Refused reason) stops kept = (stops, kept)
-    problem_stopped Unwritten stops kept = absurd stops
-    problem_stopped Memory stops kept = (stops, kept)
-
 module _ (how : How) (text : List ℕ) (out : Change (Option (List ℕ))) (faults : Change ℕ) where
-  abbrev pub Encodes : Result (Unit {0}) Stop → Type 0
-  Encodes = EncodingEnds how text out faults
-
   -- the encoding is stopped by its text
   pub encoding_stopped : (stop : Stop) → TextStops (Encode how) text stop
-      → Untouched out faults → Encodes (Err stop)
-  encoding_stopped NotBuilt stops kept = (stops, kept)
+      → Untouched out faults → EncodingEnds how text out faults (Err stop)
+  encoding_stopped NotBuilt stops kept = absurd stops
   encoding_stopped (Unread name) stops kept = absurd stops
   encoding_stopped (Refused reason) stops kept = (stops, kept)
   encoding_stopped Unwritten stops kept = absurd stops
   encoding_stopped Memory stops kept = kept
 
-  module _ (problem : Problem) (has : HasProblem text problem) where
-    whole : {Part : List ℕ → Type 0} → IsWritten how.scheme problem Part
-        → LedToOutput (Encode how) (output_of how.scheme (untyped_problem how.scheme problem))
-        text []
-    whole written = (
-      Ok problem,
-      has,
-      (
-        record {
-          taken = written.taken;
-          within = λ normalised. written.within;
-          applies = written.applies;
-        },
-        refl,
-      ),
-    )
-
-    -- the encoding of the text ends as that of its problem
-    pub encoding_ends : (end : Result (Unit {0}) Stop) → ProblemEnds how.scheme problem out faults end
-        → Encodes end
-    encoding_ends (Ok finished) ends =
-        (output_of how.scheme (untyped_problem how.scheme problem), whole ends, ends.written)
-    encoding_ends (Err NotBuilt) ends = ((Ok problem, has, ends.0), ends.1)
-    encoding_ends (Err (Unread name)) ends = absurd ends.0
-    encoding_ends (Err (Refused (fault.TooLarge nodes))) ends =
-        ((Ok problem, has, (ends.0.0, refl, ends.0.1, ends.0.2)), ends.1)
-    encoding_ends (Err (Refused (fault.Reading reason))) ends = absurd ends.0
-    encoding_ends (Err (Refused (fault.Typing reason))) ends = absurd ends.0
-    encoding_ends (Err (Refused (fault.Scheme reason))) ends = ((Ok problem, has, ends.0), ends.1)
-    encoding_ends (Err (Refused fault.Incomplete)) ends = absurd ends.0
-    encoding_ends (Err (Refused (fault.Table reason))) ends = absurd ends.0
-    encoding_ends (Err (Refused (fault.NotModel formula))) ends = absurd ends.0
-    encoding_ends (Err (Refused fault.Write)) ends = absurd ends.0
-    encoding_ends (Err (Refused fault.Memory)) ends = absurd ends.0
-    encoding_ends (Err Unwritten) ends =
-        (output_of how.scheme (untyped_problem how.scheme problem), whole ends.0, ends.0.written, ends.1)
-    encoding_ends (Err Memory) ends = ends.1
+-- what is prepared has an output
+pub encodable : (how : How) (text : List ℕ) (p : Preparation) → HasPrepared how text p
+    → LedToOutput (Encode how) (output p) text []
+encodable how text p is = (
+  Ok is.problem,
+  is.has,
+  (record { within = λ normalised. is.within; applies = is.applies }, ap output is.is),
+)
 
 -- the task of encoding ends as the encoding
 pub encoded : (how : How) (text : List ℕ) (w : Work) (end : Result (Unit {0}) Stop)
     → EncodingEnds how text w.out w.out_faults end → TextEnds (Encode how) text w end
 encoded how text w (Ok finished) ends = (ends.0, ([], refl, ends.1), ends.2)
-encoded how text w (Err NotBuilt) ends = ends
+encoded how text w (Err NotBuilt) ends = absurd ends
 encoded how text w (Err (Unread name)) ends = absurd ends
 encoded how text w (Err (Refused reason)) ends = (inl ends.0, ends.1)
 encoded how text w (Err Unwritten) ends = (ends.0, ([], refl, ends.1), ends.2, ends.3)

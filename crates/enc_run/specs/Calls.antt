@@ -1,5 +1,4 @@
 -- Words of private contracts, which need not be believed.
-pub mod Marks
 pub mod Note
 pub mod Ending
 pub mod Parts

@@ -5,9 +5,8 @@ use Rattle.std.specs.Option.{option_map}
 use Rattle.std.specs.Str.{bytes_eq}
 use Rattle.enc_marks.specs.declared.scheme.Scheme.{Scheme}
 use Rattle.enc_marks.specs.declared.scheme.Scheme.TheVariants as scheme
-use Rattle.enc_pipeline.specs.declared.how.How.{How}
 use Rattle.enc_pipeline.specs.Output.{scheme_name}
-use Rattle.enc_pipeline.specs.Way.{is_built, plain_way}
+use Rattle.enc_pipeline.specs.Way.{plain_way}
 use Rattle.enc_run.specs.declared.job.Job.{Job}
 use Rattle.enc_run.specs.declared.job.Task.{Task}
 use Rattle.enc_run.specs.declared.job.Task.TheVariants.{Encode, Check, Lower, Lift}
@@ -19,7 +18,7 @@ table_name (Check table) = Some table
 table_name (Lower table how) = Some table
 table_name (Lift table how) = Some table
 
--- the scheme of this name, where it is built
+-- the scheme of this name
 unfoldable pub scheme_of : List ℕ → Option Scheme
 scheme_of name =
     if bytes_eq name (scheme_name scheme.Guards) then Some scheme.Guards
@@ -27,27 +26,27 @@ scheme_of name =
     else (if bytes_eq name (scheme_name scheme.GuardsCover) then Some scheme.GuardsCover
     else (if bytes_eq name (scheme_name scheme.TagsCover) then Some scheme.TagsCover
     else (if bytes_eq name (scheme_name scheme.Args) then Some scheme.Args
-    else (if bytes_eq name (scheme_name scheme.Erase) then Some scheme.Erase else None)))))
+    else (if bytes_eq name (scheme_name scheme.Erase) then Some scheme.Erase
+    else (if bytes_eq name (scheme_name scheme.GuardsLight) then Some scheme.GuardsLight
+    else (if bytes_eq name (scheme_name scheme.TagsLight) then Some scheme.TagsLight
+    else (if bytes_eq name (scheme_name scheme.GuardsFeather) then Some scheme.GuardsFeather
+    else (if bytes_eq name (scheme_name scheme.TagsFeather) then Some scheme.TagsFeather
+    else None)))))))))
 
 -- ---- tasks, by the name of the action
 
--- an encoding by a scheme that is built
+-- the problem is encoded by a scheme
 abbrev pub encoding_of : List ℕ → Option Scheme → Option Task
 encoding_of action None = None
 encoding_of action (Some which) =
     if bytes_eq action (codes "encode") then Some (Encode (plain_way which)) else None
 
--- a model is carried, in a way for which that is built
-abbrev pub carrying_in : List ℕ → List ℕ → How → Option Task
-carrying_in action table how =
-    if bytes_eq action (codes "lower") then Some (Lower table how)
-    else (if bytes_eq action (codes "lift") then Some (Lift table how) else None)
-
--- a model is carried, by a scheme for which that is built
+-- a table's model is carried by a scheme
 abbrev pub carrying_of : List ℕ → List ℕ → Option Scheme → Option Task
 carrying_of action table None = None
 carrying_of action table (Some which) =
-    if is_built which then carrying_in action table (plain_way which) else None
+    if bytes_eq action (codes "lower") then Some (Lower table (plain_way which))
+    else (if bytes_eq action (codes "lift") then Some (Lift table (plain_way which)) else None)
 
 -- a task with a table, where no scheme is named
 abbrev pub table_task_of : List ℕ → List ℕ → Option Task

@@ -5,46 +5,25 @@ use Rattle.enc_base.specs.Counts.{in_64_bits}
 use Rattle.tf_core.specs.declared.problem.Problem.{Problem}
 use Rattle.tf_nnf.specs.NormalForm.{normal_of}
 use Rattle.tf_nnf.specs.Refusal.{most_nodes}
-use Rattle.fof_models.specs.declared.problem.FofProblem.{FofProblem}
 use Rattle.enc_marks.specs.declared.refusal.Refusal.{Refusal}
 use Rattle.enc_marks.specs.declared.scheme.Scheme.{Scheme}
-use Rattle.enc_marks.specs.declared.scheme.Scheme.TheVariants as scheme
 use Rattle.enc_marks.specs.Applies.{Applies, IsRefused}
 use Rattle.enc_pipeline.specs.declared.fault.Fault.{Fault}
 use Rattle.enc_pipeline.specs.declared.fault.Fault.TheVariants as fault
 use Rattle.enc_pipeline.specs.Carried.{IsNoModel, IsCheckedTo}
 use Rattle.enc_pipeline.specs.Carried.{IsLoweredTo, IsUnlowered, IsLiftedTo, IsUnlifted}
 use Rattle.enc_pipeline.specs.Causes.{IsSchemeRefusal, IsUnreadable, nodes_of}
-use Rattle.enc_pipeline.specs.Output.{output_of, translated}
+use Rattle.enc_pipeline.specs.Output.{output}
 use Rattle.enc_pipeline.specs.Reading.{HasProblem}
-use Rattle.enc_pipeline.specs.Way.{Preparation, is_built}
+use Rattle.enc_pipeline.specs.Way.{Preparation}
 use Rattle.enc_pipeline.specs.declared.how.How.{How}
-use Rattle.enc_run.specs.Erased.{erased}
-use Rattle.enc_run.specs.Plain.{is_plain}
 use Rattle.enc_run.specs.declared.job.Task.{Task}
 use Rattle.enc_run.specs.declared.job.Task.TheVariants.{Encode, Check, Lower, Lift}
 
 -- ---- schemes
 
--- whether a problem is taken by a scheme: by one that is built all are, and by `erase` the plain
--- ones
-abbrev pub encodes : Scheme → Problem → Bool
-encodes scheme.Erase problem = is_plain problem
-encodes which problem = is_built which
-
--- the untyped problem that is written for a problem by a scheme
-abbrev pub untyped_problem : Scheme → Problem → FofProblem
-untyped_problem scheme.Erase problem = erased (normal_of problem)
-untyped_problem which problem = (translated which problem).problem
-
--- A scheme that is built applies to a problem. That which isn't built takes plain problems alone, to
--- which it applies.
-abbrev pub IsApplied : Scheme → Problem → Type 0
-IsApplied which problem = is_built which ≡ true → Applies which (normal_of problem)
-
--- a scheme that is built doesn't apply to a problem, whose normal problem is within the limit
+-- a scheme doesn't apply to a problem, whose normal problem is within the limit
 pub record IsUnapplied (which : Scheme) (problem : Problem) : Type 0 where
-  pub built : is_built which ≡ true
   pub within : nodes_of problem ≤ most_nodes
   pub unapplied : Applies which (normal_of problem) → ⊥
 
@@ -69,13 +48,6 @@ abbrev pub LeadsTo : List ℕ → Lead → Type 0
 LeadsTo text (Ok problem) = HasProblem text problem
 LeadsTo text (Err reason) = (reason ≢ fault.Memory) × IsUnreadable text reason
 
--- whether a task is built for a problem
-abbrev pub is_taken : Task → Problem → Bool
-is_taken (Encode how) problem = encodes how.scheme problem
-is_taken (Check table) problem = true
-is_taken (Lower table how) problem = is_built how.scheme
-is_taken (Lift table how) problem = is_built how.scheme
-
 -- the scheme of a task, where it has one
 abbrev pub task_scheme : Task → Option Scheme
 task_scheme (Encode how) = Some how.scheme
@@ -92,8 +64,8 @@ is_normalised _ = true
 -- scheme doesn't apply to it.
 abbrev pub RefusesProblem : Task → Problem → Fault → Type 0
 RefusesProblem task problem (fault.TooLarge nodes) =
-    (is_taken task problem ≡ true) × (is_normalised task ≡ true)
-    × (most_nodes < nodes_of problem) × (nodes ≡ in_64_bits (nodes_of problem))
+    (is_normalised task ≡ true) × (most_nodes < nodes_of problem)
+    × (nodes ≡ in_64_bits (nodes_of problem))
 RefusesProblem task problem (fault.Scheme reason) =
     IsSomeAnd (task_scheme task) (λ which. RefusesBy which problem reason)
 RefusesProblem task problem _ = ⊥
@@ -104,22 +76,16 @@ abbrev pub IsRefusedBy : Task → Fault → Lead → Type 0
 IsRefusedBy task reason (Ok problem) = RefusesProblem task problem reason
 IsRefusedBy task reason (Err other) = reason ≡ other
 
--- the source leads to a problem, for which the task isn't built
-abbrev pub IsUnbuilt : Task → Lead → Type 0
-IsUnbuilt task (Ok problem) = is_taken task problem ≡ false
-IsUnbuilt task (Err reason) = ⊥
-
 -- the source leads to a problem to which the task's scheme doesn't apply
 abbrev pub IsUnsuited : Task → Lead → Type 0
 IsUnsuited task (Ok problem) = IsSomeAnd (task_scheme task) (λ which. IsUnapplied which problem)
 IsUnsuited task (Err reason) = ⊥
 
--- The task is built for the problem, which is within the limits, and its scheme applies to it:
--- nothing is refused before a table is read.
+-- The problem is within the limits, and the task's scheme applies to it: nothing is refused before a
+-- table is read.
 pub record IsAccepted (task : Task) (problem : Problem) : Type 0 where
-  pub taken : is_taken task problem ≡ true
   pub within : is_normalised task ≡ true → nodes_of problem ≤ most_nodes
-  pub applies : IfSome (task_scheme task) (λ which. IsApplied which problem)
+  pub applies : IfSome (task_scheme task) (λ which. Applies which (normal_of problem))
 
 -- the source leads to such a problem
 abbrev pub IsAcceptable : Task → Lead → Type 0
@@ -139,13 +105,12 @@ RefusesTable (Lift name how) problem table reason =
 
 -- what a task writes for a problem and a table's text
 abbrev pub Writes : Task → Problem → List ℕ → List ℕ → Type 0
-Writes (Encode how) problem table output =
-    output ≡ output_of how.scheme (untyped_problem how.scheme problem)
-Writes (Check name) problem table output = IsCheckedTo problem table output
-Writes (Lower name how) problem table output =
-    IsLoweredTo (preparation how problem) table output
-Writes (Lift name how) problem table output =
-    IsLiftedTo (preparation how problem) table output
+Writes (Encode how) problem table written = written ≡ output (preparation how problem)
+Writes (Check name) problem table written = IsCheckedTo problem table written
+Writes (Lower name how) problem table written =
+    IsLoweredTo (preparation how problem) table written
+Writes (Lift name how) problem table written =
+    IsLiftedTo (preparation how problem) table written
 
 -- the source is accepted, and the table is refused for this reason
 abbrev pub IsTableRefusedBy : Task → Fault → Lead → List ℕ → Type 0
@@ -155,6 +120,6 @@ IsTableRefusedBy task reason (Err other) table = ⊥
 
 -- the source is accepted, and this is the output for its problem and the table's text
 abbrev pub IsOutputOf : Task → List ℕ → Lead → List ℕ → Type 0
-IsOutputOf task output (Ok problem) table =
-    IsAccepted task problem × Writes task problem table output
-IsOutputOf task output (Err reason) table = ⊥
+IsOutputOf task written (Ok problem) table =
+    IsAccepted task problem × Writes task problem table written
+IsOutputOf task written (Err reason) table = ⊥

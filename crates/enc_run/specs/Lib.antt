@@ -1,5 +1,3 @@
-pub mod Plain
-pub mod Erased
 pub mod Job
 pub mod Leads
 pub mod Note

@@ -11,13 +11,13 @@ use Rattle.tf_core.specs.TypedTables.{HasFiniteModel}
 use Rattle.fof_text.specs.States.{TextHasFiniteModel}
 use Rattle.enc_pipeline.specs.declared.fault.Fault.{Fault}
 use Rattle.enc_pipeline.specs.declared.how.How.{How}
-use Rattle.enc_pipeline.specs.Output.{output_of}
+use Rattle.enc_pipeline.specs.Output as outputs
 use Rattle.enc_pipeline.specs.RefusalNumbers.{number_of}
 use Rattle.enc_run.specs.Source.{IsToldSource, AreToldSource}
 use Rattle.enc_run.specs.Texts.{OfSource, IsRefused, IsOutput, IsInput, Fails}
 use Rattle.enc_run.specs.Job.{table_name}
-use Rattle.enc_run.specs.Leads.{Lead, IsRefusedBy, IsTableRefusedBy, IsUnbuilt, IsUnsuited, IsAcceptable}
-use Rattle.enc_run.specs.Leads.{IsOutputOf, untyped_problem}
+use Rattle.enc_run.specs.Leads.{Lead, IsRefusedBy, IsTableRefusedBy, IsUnsuited, IsAcceptable}
+use Rattle.enc_run.specs.Leads.{IsOutputOf, preparation}
 use Rattle.enc_run.specs.Note.{line, number_word, not_built, cannot_read, cannot_write, no_memory}
 use Rattle.enc_run.specs.Statuses.{status_of_refusal}
 use Rattle.enc_run.specs.Work.{Change, Work, Rises, OwnRises, Untouched, Adds, IsTold}
@@ -53,7 +53,7 @@ Models w status =
 pub record IsTranslated (how : How) (text : List ℕ) (out : Change (Option (List ℕ)))
     : Type 0 where
   pub together : HaveModels text out
-  pub is : together.output ≡ output_of how.scheme (untyped_problem how.scheme together.problem)
+  pub is : together.output ≡ outputs.output (preparation how together.problem)
 
 abbrev pub Translated : Work → ℕ → Type 0
 Translated w status =
@@ -71,13 +71,10 @@ Complete w status =
 
 -- ---- the causes
 
--- 9 comes exactly where the words give no job, or its task isn't built for the text's problem, and
--- only there from any library
+-- 9 comes exactly where the words give no job
 pub record NotBuiltExactly (w : Work) (status : ℕ) : Type 0 where
   pub at_words : w.job ≡ None → IsOrMemory 9 status
-  pub at_source : (job : Job) (source : Lead) → IsToldSource w job source
-      → ProblemStands w job → IsUnbuilt job.task source → IsOrMemory 9 status
-  pub only : status ≡ 9 → (w.job ≡ None) ⊎ OfSource w IsUnbuilt
+  pub only : status ≡ 9 → w.job ≡ None
 
 -- the status is that of a refusal: of a text, by the scheme, of a table, or by a limit
 abbrev pub IsOfRefusal : ℕ → Type 0

@@ -6,16 +6,15 @@ use Rattle.tf_core.specs.TypedTables.{AreModel}
 use Rattle.tf_models.specs.declared.structure.TypedStructure.{TypedStructure}
 use Rattle.tf_models.specs.Reading.{tables}
 use Rattle.fof_models.specs.Models as untyped
-use Rattle.fof_text.specs.Names.{chosen_names}
 use Rattle.model_tables.specs.Typed.{IsTypedTable}
 use Rattle.model_tables.specs.Untyped.{IsUntypedTable}
 use Rattle.enc_models.specs.Lowered.{lowered}
 use Rattle.enc_pipeline.specs.Carried.{IsTableOfModel, IsLoweredTo, IsLiftedTo, lifted_model}
 use Rattle.enc_pipeline.specs.Carried.{model_line}
-use Rattle.enc_pipeline.specs.Carried.{written_normal, choices}
+use Rattle.enc_pipeline.specs.Carried.{written_normal, choices, translation, names}
 use Rattle.enc_pipeline.specs.Reading.{HasProblem}
 use Rattle.enc_pipeline.specs.declared.how.How.{How}
-use Rattle.enc_run.specs.Leads.{preparation, untyped_problem}
+use Rattle.enc_run.specs.Leads.{preparation}
 use Rattle.enc_run.specs.Work.{Change, Work, AreTold}
 use Rattle.enc_run.specs.declared.job.Job.{Job}
 use Rattle.enc_run.specs.declared.job.Task.TheVariants.{Check, Lower, Lift}
@@ -49,11 +48,11 @@ pub record IsLowered (how : How) (text table : List ℕ) (out : Change (Option (
   pub output : List ℕ
   pub carried : IsLoweredTo (preparation how problem) table output
   pub written : Appends out.before out.after output
-  pub is_table : IsUntypedTable output (untyped_problem how.scheme problem)
-      (chosen_names (untyped_problem how.scheme problem).signature)
+  pub is_table : IsUntypedTable output (translation (preparation how problem))
+      (names (preparation how problem))
       (lowered (choices (preparation how problem)) (written_normal (preparation how problem))
       carried.extension)
-  pub is_model : untyped.AreModel (untyped_problem how.scheme problem)
+  pub is_model : untyped.AreModel (translation (preparation how problem))
       (lowered (choices (preparation how problem)) (written_normal (preparation how problem))
       carried.extension)
 

@@ -4,7 +4,7 @@ ghost use Rattle.enc_run.specs.Job as spec;
 use crate::Text;
 use enc_base::NoMemory;
 use enc_marks::Scheme;
-use enc_pipeline::{How, is_built, scheme_name};
+use enc_pipeline::{How, scheme_name};
 use std::alloc::Global;
 
 /// What is to be done with a problem. A table is named as a file is.
@@ -27,7 +27,7 @@ pub struct Job {
     pub task: Task,
 }
 
-// the scheme of this name, where it is built
+// the scheme of this name
 #[tactic(auto, unfolding(crate::specs::Job::scheme_of))]
 fn scheme_of(name: &str) -> Option<Scheme>
     ensures { result ≡ spec.scheme_of name.now }
@@ -44,12 +44,20 @@ fn scheme_of(name: &str) -> Option<Scheme>
         Some(Scheme::Args)
     } else if name == scheme_name(&Scheme::Erase) {
         Some(Scheme::Erase)
+    } else if name == scheme_name(&Scheme::GuardsLight) {
+        Some(Scheme::GuardsLight)
+    } else if name == scheme_name(&Scheme::TagsLight) {
+        Some(Scheme::TagsLight)
+    } else if name == scheme_name(&Scheme::GuardsFeather) {
+        Some(Scheme::GuardsFeather)
+    } else if name == scheme_name(&Scheme::TagsFeather) {
+        Some(Scheme::TagsFeather)
     } else {
         None
     }
 }
 
-// the encoding by a scheme that is built
+// the encoding by a scheme
 fn encoding_of(action: &str, scheme: Option<Scheme>) -> Option<Task>
     ensures { result ≡ spec.encoding_of action.now scheme }
 {
@@ -61,22 +69,7 @@ fn encoding_of(action: &str, scheme: Option<Scheme>) -> Option<Task>
     }
 }
 
-// the carrying of a table's model in a way for which that is built
-fn carrying_in(alloc: Global, action: &str, table: &str, how: How) -> Result<Option<Task>, NoMemory>
-    ensures { IfOk result (λ task. task ≡ spec.carrying_in action.now table.now how) }
-{
-    if action == "lower" {
-        let table = Text::from_str(alloc, table)?;
-        Ok(Some(Task::Lower { table, how }))
-    } else if action == "lift" {
-        let table = Text::from_str(alloc, table)?;
-        Ok(Some(Task::Lift { table, how }))
-    } else {
-        Ok(None)
-    }
-}
-
-// the carrying of a table's model by a scheme for which that is built
+// the carrying of a table's model by a scheme
 fn carrying_of(
     alloc: Global,
     action: &str,
@@ -88,8 +81,14 @@ fn carrying_of(
     let Some(scheme) = scheme else {
         return Ok(None);
     };
-    if is_built(&scheme) {
-        carrying_in(alloc, action, table, How::plain(scheme))
+    if action == "lower" {
+        let table = Text::from_str(alloc, table)?;
+        let how = How::plain(scheme);
+        Ok(Some(Task::Lower { table, how }))
+    } else if action == "lift" {
+        let table = Text::from_str(alloc, table)?;
+        let how = How::plain(scheme);
+        Ok(Some(Task::Lift { table, how }))
     } else {
         Ok(None)
     }

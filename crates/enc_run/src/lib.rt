@@ -3,7 +3,6 @@
 
 mod job;
 mod notes;
-mod plain;
 mod problem;
 mod reading;
 mod running;

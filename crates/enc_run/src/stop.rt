@@ -8,7 +8,7 @@ use enc_pipeline::Fault;
 /// How a run ends early, with what its note needs.
 #[derive(Debug, Drop)]
 pub enum Stop {
-    /// The words, or the problem under the scheme, are not built yet.
+    /// The words give no job.
     NotBuilt,
     /// The named file could not be read.
     Unread(Text),

@@ -1,18 +1,17 @@
 //! From a problem's text and a table's to what is written for them.
 
-ghost use Rattle.std.specs.Prelude.{◌≡◌, ℕ, List, IfOk, IfErr};
+ghost use Rattle.std.specs.Prelude.{◌≡◌};
 ghost use Rattle.enc_pipeline.specs.Way.{plain_way};
 ghost use Rattle.enc_run.specs.Calls.Ending.{CountsFaults};
-ghost use Rattle.enc_run.specs.Calls.Parts.{TextEnds, TextStops, HasPrepared, ReadsTable};
+ghost use Rattle.enc_run.specs.Calls.Parts.{TextEnds, ReadsTable};
 ghost use Rattle.enc_run.specs.Work.{rest_of, GoesOn, read_faults_of, own_faults_of};
 ghost use Rattle.enc_run.specs.declared.job.Task.TheVariants.{Check, Lower, Lift};
 
+use crate::problem::prepared;
 use crate::reading::read_text;
 use crate::{Stop, Text};
 use enc_base::{Library, Sink};
-use enc_pipeline::{
-    How, Prepared, check_file, is_built, lift_file, lower_file, prepare, read_problem,
-};
+use enc_pipeline::{How, check_file, lift_file, lower_file, read_problem};
 use std::alloc::Global;
 
 /// Writes that the structure of the table is a model of the text's problem, where it is.
@@ -37,20 +36,6 @@ pub fn check_text<L: Library, O: Sink>(
     let table = read_text(alloc, table, files)?;
     check_file(alloc, &problem, &table, out)?;
     Ok(())
-}
-
-// The text's problem, prepared in the way.
-fn prepared(alloc: Global, how: How, text: &[u8]) -> Result<Prepared, Stop>
-    requires plain { how ≡ plain_way how.scheme }
-    ensures exact { IfOk result (HasPrepared how text.now) }
-    ensures cause { IfErr result (λ stop. (name : List ℕ) →
-        TextStops (Lower name how) text.now stop × TextStops (Lift name how) text.now stop) }
-{
-    let source = read_problem(alloc, text)?;
-    if !is_built(&how.scheme) {
-        return Err(Stop::NotBuilt);
-    }
-    Ok(prepare(alloc, source, how)?)
 }
 
 /// Writes the table of the model of the encoding that the model of the table gives.

@@ -115,6 +115,9 @@ const IDEMPOTENCE: &str = "% tfenc tags_cover complete
 fof(tag_idempotence,axiom,![X0]: ![X1]: as(X0,as(X0,X1)) = as(X0,X1)).
 ";
 
+// a problem with a type variable
+const POLYMORPHIC: &str = "tff(p,axiom,![A: $tType,X: A,Y: A]: X = Y).";
+
 // a problem with two types, whose first axiom has naked variables
 const NAKED: &str = "tff(a,type,a: $tType).
 tff(b,type,b: $tType).
@@ -148,7 +151,7 @@ fn each_write_fails_in_turn(rt: HostRuntime) -> Result<(), Fail> {
             1,
         ),
         (
-            ("tff(p,axiom,![A: $tType,X: A,Y: A]: X = Y).", ""),
+            (POLYMORPHIC, ""),
             "encode p --scheme tags",
             "% tfenc tags complete\nfof(p,axiom,![X0]: ![X1]: ![X2]: as(X0,X1) = as(X0,X2)).\n",
             1,
@@ -187,9 +190,21 @@ fn each_write_fails_in_turn(rt: HostRuntime) -> Result<(), Fail> {
             1,
         ),
         (
+            (ALL_EQUAL, TWO_ELEMENTS),
+            "lower p t --scheme erase",
+            "untyped 1.\nsize 2.\n",
+            1,
+        ),
+        (
             (ALL_EQUAL, LOWERED),
             "lift p t",
             "typed 1.\nsizes 1 2 1 2 2.\ntype $i = 0.\n",
+            1,
+        ),
+        (
+            (ALL_EQUAL, "untyped 1. size 2."),
+            "lift p t --scheme tags_feather",
+            "typed 1.\nsizes 2.\ntype $i = 0.\n",
             1,
         ),
     ] {
@@ -234,6 +249,12 @@ fn each_read_fails_in_turn(rt: HostRuntime) -> Result<(), Fail> {
     for (line, reads, status, note) in [
         ("lower p t", [1], 6, "tfenc: cannot read p\n"),
         ("lower p t", [2], 6, "tfenc: cannot read t\n"),
+        (
+            "lower p t --scheme guards_light",
+            [2],
+            6,
+            "tfenc: cannot read t\n",
+        ),
         ("check p t", [2], 6, "tfenc: cannot read t\n"),
         ("encode p --scheme guards", [1], 6, "tfenc: cannot read p\n"),
         ("lower t q", [2], 1, "tfenc: 5 language at 0\n"),
@@ -361,8 +382,16 @@ fn failing_notes_change_no_status(rt: HostRuntime) -> Result<(), Fail> {
             "",
             "encode p --scheme erase",
             [9],
-            9,
-            "tfenc: not built\n",
+            3,
+            "tfenc: 32 naked variable in formula 0 equation 0 side 0\n",
+        ),
+        (
+            POLYMORPHIC,
+            "",
+            "encode p --scheme guards_light",
+            [9],
+            3,
+            "tfenc: 31 not monomorphic p\n",
         ),
         ("", "", "encode q", [9], 6, "tfenc: cannot read q\n"),
         ("", "", guarded, [1], 7, "tfenc: cannot write\n"),

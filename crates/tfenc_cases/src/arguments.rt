@@ -78,6 +78,8 @@ pub fn scheme(word: &[u8]) -> Result<Scheme, Stop> {
         b"erase" => Ok(Scheme::Erase),
         b"guards_light" => Ok(Scheme::GuardsLight),
         b"tags_light" => Ok(Scheme::TagsLight),
+        b"guards_feather" => Ok(Scheme::GuardsFeather),
+        b"tags_feather" => Ok(Scheme::TagsFeather),
         _ => Err(Stop::Shape),
     }
 }

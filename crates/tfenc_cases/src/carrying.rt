@@ -19,7 +19,7 @@ use crate::encoding::{Encoding, encoding_by, first_false_in, untyped_model_of};
 use crate::given::{extension_of, model_of, normal_of, problem_of};
 use crate::out::Out;
 use crate::put_tables::{put_typed, put_untyped};
-use crate::refusals::{no_model, not_built, unencoded};
+use crate::refusals::{no_model, unencoded};
 use crate::stop::Stop;
 use enc_marks::{Encoded, Scheme};
 use fof_models::{FofProblem, Structure};
@@ -58,7 +58,17 @@ fn lowered_by(
         Scheme::GuardsCover => enc_cover::lower(alloc, Scheme::GuardsCover, normal, made, model),
         Scheme::TagsCover => enc_cover::lower(alloc, Scheme::TagsCover, normal, made, model),
         Scheme::Args => enc_args::lower(alloc, Scheme::Args, normal, made, model),
-        _ => return Err(not_built(alloc)),
+        Scheme::Erase => enc_args::lower(alloc, Scheme::Erase, normal, made, model),
+        Scheme::GuardsLight => enc_light::lower(alloc, Scheme::GuardsLight, normal, made, model),
+        Scheme::TagsLight => enc_light::lower(alloc, Scheme::TagsLight, normal, made, model),
+        Scheme::GuardsFeather => enc_feather::lower(
+            alloc,
+            Scheme::GuardsFeather,
+            normal,
+            made,
+            model,
+        ),
+        Scheme::TagsFeather => enc_feather::lower(alloc, Scheme::TagsFeather, normal, made, model),
     };
     match lowered {
         Ok(structure) => Ok(structure),
@@ -85,7 +95,17 @@ fn lifted_by(
         Scheme::GuardsCover => enc_cover::lift(alloc, Scheme::GuardsCover, normal, made, model),
         Scheme::TagsCover => enc_cover::lift(alloc, Scheme::TagsCover, normal, made, model),
         Scheme::Args => enc_args::lift(alloc, Scheme::Args, normal, made, model),
-        _ => return Err(not_built(alloc)),
+        Scheme::Erase => enc_args::lift(alloc, Scheme::Erase, normal, made, model),
+        Scheme::GuardsLight => enc_light::lift(alloc, Scheme::GuardsLight, normal, made, model),
+        Scheme::TagsLight => enc_light::lift(alloc, Scheme::TagsLight, normal, made, model),
+        Scheme::GuardsFeather => enc_feather::lift(
+            alloc,
+            Scheme::GuardsFeather,
+            normal,
+            made,
+            model,
+        ),
+        Scheme::TagsFeather => enc_feather::lift(alloc, Scheme::TagsFeather, normal, made, model),
     };
     match lifted {
         Ok(structure) => Ok(structure),

@@ -12,13 +12,12 @@ ghost use Rattle.fof_text.specs.States.{AreNamed};
 ghost use Rattle.enc_marks.specs.Applies.{Applies};
 ghost use Rattle.enc_marks.specs.Encoded.{encoded};
 ghost use Rattle.enc_marks.specs.Schemes.{choices_of};
-ghost use Rattle.enc_marks.specs.Laws.{IsByType};
 
 use crate::call::Call;
 use crate::given::{normal_of, problem_of};
-use crate::refusals::{no_model, not_built, unencoded, untabled};
+use crate::refusals::{no_model, unencoded, untabled};
 use crate::stop::Stop;
-use enc_marks::{Encoded, Scheme};
+use enc_marks::{Encoded, Refusal, Scheme};
 use fof_models::{FofEnv, FofProblem, Structure};
 use fof_text::Names;
 use model_tables::read_untyped;
@@ -32,36 +31,37 @@ pub struct Encoding {
     pub names: Names,
 }
 
+// the translation of a normal problem, or why there is none
+fn translated(alloc: Global, which: &Scheme, normal: &Normal) -> Result<Encoded, Refusal>
+    requires sound { IsSoundNormal normal.now }
+    ensures exact { IfOk result (λ made.
+        made ≡ encoded (choices_of which.now normal.now) normal.now) }
+    ensures applies { IfOk result (λ _. Applies which.now normal.now) }
+{
+    match which {
+        Scheme::Guards => enc_guards::encode(alloc, Scheme::Guards, normal),
+        Scheme::Tags => enc_tags::encode(alloc, Scheme::Tags, normal),
+        Scheme::GuardsCover => enc_cover::encode(alloc, Scheme::GuardsCover, normal),
+        Scheme::TagsCover => enc_cover::encode(alloc, Scheme::TagsCover, normal),
+        Scheme::Args => enc_args::encode(alloc, Scheme::Args, normal),
+        Scheme::Erase => enc_args::encode(alloc, Scheme::Erase, normal),
+        Scheme::GuardsLight => enc_light::encode(alloc, Scheme::GuardsLight, normal),
+        Scheme::TagsLight => enc_light::encode(alloc, Scheme::TagsLight, normal),
+        Scheme::GuardsFeather => enc_feather::encode(alloc, Scheme::GuardsFeather, normal),
+        Scheme::TagsFeather => enc_feather::encode(alloc, Scheme::TagsFeather, normal),
+    }
+}
+
 /// The translation of a normal problem.
 pub fn encoded_by(alloc: Global, which: &Scheme, normal: &Normal) -> Result<Encoded, Stop>
     requires sound { IsSoundNormal normal.now }
     ensures exact { IfOk result (λ made.
         made ≡ encoded (choices_of which.now normal.now) normal.now) }
-    ensures by_type { IfOk result (λ _. IsByType (choices_of which.now normal.now)) }
     ensures applies { IfOk result (λ _. Applies which.now normal.now) }
 {
-    match which {
-        Scheme::Guards => match enc_guards::encode(alloc, Scheme::Guards, normal) {
-            Ok(made) => Ok(made),
-            Err(reason) => Err(unencoded(alloc, &reason)),
-        },
-        Scheme::Tags => match enc_tags::encode(alloc, Scheme::Tags, normal) {
-            Ok(made) => Ok(made),
-            Err(reason) => Err(unencoded(alloc, &reason)),
-        },
-        Scheme::GuardsCover => match enc_cover::encode(alloc, Scheme::GuardsCover, normal) {
-            Ok(made) => Ok(made),
-            Err(reason) => Err(unencoded(alloc, &reason)),
-        },
-        Scheme::TagsCover => match enc_cover::encode(alloc, Scheme::TagsCover, normal) {
-            Ok(made) => Ok(made),
-            Err(reason) => Err(unencoded(alloc, &reason)),
-        },
-        Scheme::Args => match enc_args::encode(alloc, Scheme::Args, normal) {
-            Ok(made) => Ok(made),
-            Err(reason) => Err(unencoded(alloc, &reason)),
-        },
-        _ => Err(not_built(alloc)),
+    match translated(alloc, which, normal) {
+        Ok(made) => Ok(made),
+        Err(reason) => Err(unencoded(alloc, &reason)),
     }
 }
 
@@ -76,7 +76,6 @@ fn names_of(
     requires sound { IsSoundNormal normal.now }
     requires named { HasWritableNames problem.now }
     requires normal { normal.now ≡ normal_of problem.now }
-    requires by_type { IsByType (choices_of which.now normal.now) }
     requires encoded { made.now ≡ encoded (choices_of which.now normal.now) normal.now }
     requires translated { IsSound made.now.problem }
     ensures { IfOk result (λ names. AreNamed names made.now.problem) }

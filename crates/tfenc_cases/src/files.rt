@@ -3,13 +3,13 @@
 ghost use Rattle.std.specs.Prelude.{IfOk};
 ghost use Rattle.tf_core.specs.Sound.{IsSound};
 ghost use Rattle.enc_pipeline.specs.Distinct.{HasDistinctNames};
-ghost use Rattle.enc_pipeline.specs.Way.{IsInRange, IsBuilt};
+ghost use Rattle.enc_pipeline.specs.Way.{IsInRange, IsWithoutInstances};
 
 use crate::call::Call;
 use crate::given::problem_of;
 use crate::models::ROOM;
 use crate::out::Out;
-use crate::refusals::{not_built, stopped};
+use crate::refusals::stopped;
 use crate::stop::Stop;
 use enc_base::{List, MemorySink};
 use enc_marks::Scheme;
@@ -32,18 +32,12 @@ pub fn answer(name: &[u8], call: &mut Call<'_>, out: &mut Out) -> Result<bool, S
     Ok(true)
 }
 
-// the way in which a scheme that is built encodes
+// the way in which a scheme encodes
 fn way_of(alloc: Global, which: &Scheme) -> Result<How, Stop>
     ensures range { IfOk result IsInRange }
-    ensures built { IfOk result IsBuilt }
+    ensures complete { IfOk result IsWithoutInstances }
 {
-    match which {
-        Scheme::Guards => Ok(How::plain(Scheme::Guards)),
-        Scheme::Tags => Ok(How::plain(Scheme::Tags)),
-        Scheme::GuardsCover => Ok(How::plain(Scheme::GuardsCover)),
-        Scheme::TagsCover => Ok(How::plain(Scheme::TagsCover)),
-        _ => Err(not_built(alloc)),
-    }
+    Ok(How::plain(which.copy(alloc)?))
 }
 
 // what went well, or why not
@@ -54,7 +48,7 @@ fn done<T: Drop>(alloc: Global, ended: Result<T, Fault>) -> Result<T, Stop> {
     }
 }
 
-/// The problem of a text, prepared to be encoded by a scheme that is built.
+/// The problem of a text, prepared to be encoded by a scheme.
 fn prepared_by(alloc: Global, which: &Scheme, text: &[u8]) -> Result<Prepared, Stop> {
     let how = way_of(alloc, which)?;
     let problem = problem_of(alloc, text)?;

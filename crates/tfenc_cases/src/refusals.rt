@@ -154,8 +154,3 @@ fn plain(alloc: Global, words: &[u8]) -> Stop {
     out.put(words);
     said(out)
 }
-
-/// What no crate answers so far.
-pub fn not_built(alloc: Global) -> Stop {
-    plain(alloc, b"not built")
-}

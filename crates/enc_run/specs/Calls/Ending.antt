@@ -1,10 +1,9 @@
 -- How a run ends, and what each way to end rests on. This need not be believed: the promises of a
 -- run follow from it, and cite none of it.
-use Rattle.std.specs.Prelude.{◌≡◌, ◌≢◌, ◌⊎◌, ℕ, List, Option, None, Result, Ok, Err}
+use Rattle.std.specs.Prelude.{◌≡◌, ◌≢◌, ℕ, List, Option, None, Result, Ok, Err}
 use Rattle.std.specs.Io.KnownBytes.{Appends}
 use Rattle.enc_base.specs.Sink.{AppendsPrefix}
-use Rattle.enc_run.specs.Leads.{IsUnbuilt}
-use Rattle.enc_run.specs.Texts.{OfSource, IsRefused, IsOutput, IsInput, Fails, ReadsAsNeeded}
+use Rattle.enc_run.specs.Texts.{IsRefused, IsOutput, IsInput, Fails, ReadsAsNeeded}
 use Rattle.enc_run.specs.Work.{Change, Work, Rises, Untouched, KeepsCounts}
 use Rattle.enc_run.specs.Calls.Note.{Notes}
 use Rattle.enc_run.specs.Stop.{status_of}
@@ -14,7 +13,7 @@ use Rattle.enc_run.specs.declared.stop.Stop.TheVariants.{Memory}
 
 -- what a stop rests on; want of memory may come anywhere
 abbrev pub CauseOf : Work → Stop → Type 0
-CauseOf w NotBuilt = (w.job ≡ None) ⊎ OfSource w IsUnbuilt
+CauseOf w NotBuilt = w.job ≡ None
 CauseOf w (Unread name) = IsInput w name × Fails w name
 CauseOf w (Refused reason) = IsRefused w reason
 CauseOf w Unwritten =

@@ -1,32 +1,22 @@
--- How the parts of a run end: the encoding of a problem, and a task on a text. This need not be
--- believed: no promise of a run cites it.
-use Rattle.std.specs.Prelude.{◌≡◌, ◌<◌, ◌≤◌, ◌⊎◌, ℕ, true, false, List, [], Option, Some, Result}
+-- How the parts of a run end: the encoding of a text, and a task on one. This need not be believed:
+-- no promise of a run cites it.
+use Rattle.std.specs.Prelude.{◌≡◌, ◌≤◌, ◌⊎◌, ℕ, List, [], Option, Some, Result}
 use Rattle.std.specs.Prelude.{Ok, Err}
 use Rattle.std.specs.Io.KnownBytes.{Appends}
-use Rattle.enc_base.specs.Counts.{one_more, in_64_bits}
+use Rattle.enc_base.specs.Counts.{one_more}
 use Rattle.enc_base.specs.Sink.{AppendsPrefix}
 use Rattle.tf_core.specs.declared.problem.Problem.{Problem}
 use Rattle.tf_nnf.specs.NormalForm.{normal_of}
 use Rattle.tf_nnf.specs.Refusal.{most_nodes}
-use Rattle.fof_models.specs.declared.problem.FofProblem.{FofProblem}
-use Rattle.fof_models.specs.Sound as untyped
-use Rattle.fof_text.specs.Names.{chosen_names}
-use Rattle.fof_text.specs.States.{AreNamed}
-use Rattle.enc_marks.specs.declared.scheme.Scheme.{Scheme}
 use Rattle.enc_marks.specs.Applies.{Applies}
-use Rattle.enc_pipeline.specs.declared.fault.Fault.TheVariants as fault
 use Rattle.enc_pipeline.specs.Causes.{nodes_of}
-use Rattle.enc_pipeline.specs.Output.{output_of}
 use Rattle.enc_pipeline.specs.Reading.{HasProblem}
-use Rattle.enc_pipeline.specs.Way.{Preparation, is_built, plain_way}
+use Rattle.enc_pipeline.specs.Way.{Preparation, plain_way}
 use Rattle.enc_pipeline.specs.declared.how.How.{How}
-use Rattle.enc_run.specs.Plain.{is_plain}
-use Rattle.enc_run.specs.Erased.{erased}
 use Rattle.enc_run.specs.Texts.{Fails}
 use Rattle.enc_run.specs.Job.{table_name}
-use Rattle.enc_run.specs.Leads.{Lead, LeadsTo, IsRefusedBy, IsTableRefusedBy, IsUnbuilt}
-use Rattle.enc_run.specs.Leads.{IsAcceptable, IsOutputOf}
-use Rattle.enc_run.specs.Leads.{encodes, untyped_problem, preparation, IsApplied, RefusesBy}
+use Rattle.enc_run.specs.Leads.{Lead, LeadsTo, IsRefusedBy, IsTableRefusedBy}
+use Rattle.enc_run.specs.Leads.{IsAcceptable, IsOutputOf, preparation}
 use Rattle.enc_run.specs.Work.{Change, Work, Rises, Untouched, HasTable}
 use Rattle.enc_run.specs.declared.job.Task.{Task}
 use Rattle.enc_run.specs.declared.job.Task.TheVariants.{Encode, Check, Lower, Lift}
@@ -40,43 +30,6 @@ IsPlainTask (Encode how) = how ≡ plain_way how.scheme
 IsPlainTask (Check table) = Unit {0}
 IsPlainTask (Lower table how) = how ≡ plain_way how.scheme
 IsPlainTask (Lift table how) = how ≡ plain_way how.scheme
-
--- the untyped problem of a plain problem within the limits
-pub record IsTranslationOf (source : Problem) (problem : FofProblem) : Type 0 where
-  pub plain : is_plain source ≡ true
-  pub within : nodes_of source ≤ most_nodes
-  pub is : problem ≡ erased (normal_of source)
-  pub sound : untyped.IsSound problem
-  pub named : AreNamed (chosen_names problem.signature) problem
-
--- ---- a problem
-
--- how a problem stops a run before anything is written
-abbrev pub ProblemStops : Scheme → Problem → Stop → Type 0
-ProblemStops which problem NotBuilt = encodes which problem ≡ false
-ProblemStops which problem (Refused (fault.TooLarge nodes)) =
-    (encodes which problem ≡ true) × (most_nodes < nodes_of problem)
-    × (nodes ≡ in_64_bits (nodes_of problem))
-ProblemStops which problem (Refused (fault.Scheme reason)) = RefusesBy which problem reason
-ProblemStops which problem Memory = Unit {0}
-ProblemStops which problem _ = ⊥
-
--- the problem is taken, within the limits, and one to which the scheme applies, and so much is
--- written of its encoding
-pub record IsWritten (which : Scheme) (problem : Problem) (Part : List ℕ → Type 0) : Type 0 where
-  pub taken : encodes which problem ≡ true
-  pub within : nodes_of problem ≤ most_nodes
-  pub applies : IsApplied which problem
-  pub written : Part (output_of which (untyped_problem which problem))
-
-module _ (which : Scheme) (problem : Problem) (out : Change (Option (List ℕ))) (faults : Change ℕ)
-  where
-    -- how the encoding of a problem ends
-    abbrev pub ProblemEnds : Result (Unit {0}) Stop → Type 0
-    ProblemEnds (Ok done) = IsWritten which problem (Appends out.before out.after)
-    ProblemEnds (Err Unwritten) =
-        IsWritten which problem (AppendsPrefix out.before out.after) × Rises faults
-    ProblemEnds (Err stop) = ProblemStops which problem stop × Untouched out faults
 
 -- ---- a text
 
@@ -97,25 +50,23 @@ module _ (how : How) (text : List ℕ) (out : Change (Option (List ℕ))) (fault
   EncodingEnds (Err Unwritten) =
       (output : List ℕ) × LedToOutput (Encode how) output text []
       × AppendsPrefix out.before out.after output × Rises faults
-  EncodingEnds (Err NotBuilt) = Led text (IsUnbuilt (Encode how)) × Untouched out faults
   EncodingEnds (Err (Refused reason)) =
       Led text (IsRefusedBy (Encode how) reason) × Untouched out faults
   EncodingEnds (Err Memory) = Untouched out faults
   EncodingEnds (Err (Unread name)) = ⊥
+  EncodingEnds (Err NotBuilt) = ⊥
 
 -- why a task is stopped by its problem's text
 abbrev pub TextStops : Task → List ℕ → Stop → Type 0
-TextStops task text NotBuilt = Led text (IsUnbuilt task)
 TextStops task text (Refused reason) = Led text (IsRefusedBy task reason)
 TextStops task text Memory = Unit {0}
 TextStops task text _ = ⊥
 
--- the text has the problem, which is within the limits, and it is prepared in a way that is built and
--- whose scheme applies to it
+-- the text has the problem, which is within the limits, and it is prepared in a way whose scheme
+-- applies to it
 pub record HasPrepared (how : How) (text : List ℕ) (prepared : Preparation) : Type 0 where
   pub problem : Problem
   pub has : HasProblem text problem
-  pub taken : is_built how.scheme ≡ true
   pub within : nodes_of problem ≤ most_nodes
   pub applies : Applies how.scheme (normal_of problem)
   pub is : prepared ≡ preparation how problem
@@ -134,7 +85,6 @@ module _ (task : Task) (text : List ℕ) (w : Work) where
   TextEnds (Err Unwritten) =
       (output : List ℕ) × WithTable (LedToOutput task output text)
       × AppendsPrefix w.out.before w.out.after output × Rises w.out_faults
-  TextEnds (Err NotBuilt) = Led text (IsUnbuilt task) × Untouched w.out w.out_faults
   TextEnds (Err (Refused reason)) =
       (Led text (IsRefusedBy task reason)
       ⊎ WithTable (λ table. Led text (λ source. IsTableRefusedBy task reason source table)))
@@ -143,6 +93,7 @@ module _ (task : Task) (text : List ℕ) (w : Work) where
       (table_name task ≡ Some name) × Led text (IsAcceptable task) × Fails w name
       × Untouched w.out w.out_faults
   TextEnds (Err Memory) = Untouched w.out w.out_faults
+  TextEnds (Err NotBuilt) = ⊥
 
   -- the table is read at most once, and only where the problem's text is accepted
   abbrev pub ReadsTable : Type 0

@@ -14,7 +14,7 @@ returns-in_err-prepared-clause-ends g c =
     handed_on (TextEnds (Lift c.args.table c.args.how) c.args.text.now _)
     c.from_residual.result stop c.from_residual.ensures
     (text_stopped (Lift c.args.table c.args.how) c.args.text.now _ stop
-    (c.in_err-prepared.ensures.cause c.args.table).1 (Keeps-refl _, refl))
+    (c.in_err-prepared.ensures.cause (Lift c.args.table c.args.how) refl) (Keeps-refl _, refl))
 
 pub returns-in_err-table-clause-ends : goal.returns-in_err-table-clause-ends
 returns-in_err-table-clause-ends g c =
