@@ -11,7 +11,7 @@ entry that is refused at the stage behind the one that is measured, so that only
   guards     the typed lists are encoded by guards: the time is that per byte of output; where the peer why3 is installed
              its processor time for the same file by guards is told too, as a multiple, and where strace is, how many
              calls of the system write the output
-  schemes    the typed lists are encoded by each scheme that is built: the time is that per byte of output
+  schemes    the typed lists are encoded by each scheme: the time is that per byte of output
   tables     a table with as many entries as there may be is checked
   models     models of the list problem are lowered, and what is written is lifted: the time is that per entry of the
              lowered table
@@ -63,6 +63,36 @@ def typed_lists(size, most=21000):
         lines.append(line)
         length += len(line) + 1
     return '\n'.join(lines) + '\n'
+
+
+def sorted_lists(most, naked):
+    """Lists of so many types, each with symbols of its own, and of every second type naked variables, if there are to be any."""
+    lines = ['tff(list,type,list: $tType > $tType).']
+    for i in range(most):
+        lines += [
+            f'tff(t{i},type,t{i}: $tType).',
+            f'tff(c{i},type,c{i}: t{i}).',
+            f'tff(n{i},type,n{i}: list(t{i})).',
+            f'tff(k{i},type,k{i}: (t{i} * list(t{i})) > list(t{i})).',
+            f'tff(p{i},type,p{i}: (t{i} * list(t{i})) > $o).',
+            f'tff(a{i},axiom,![X: t{i},L: list(t{i})]: (p{i}(X,L) => p{i}(X,k{i}(X,L)))).',
+            f'tff(b{i},axiom,p{i}(c{i},n{i})).',
+        ]
+        if naked and i % 2:
+            lines.append(f'tff(d{i},axiom,![X: t{i},Y: t{i}]: (X = Y | p{i}(X,n{i}))).')
+    return '\n'.join(lines) + '\n'
+
+
+def scheme_text(scheme, types):
+    """A problem with so many types to which the scheme applies."""
+    if scheme in ('guards', 'tags', 'guards_cover', 'tags_cover', 'args'):
+        return typed_lists(MOST, types)
+    return sorted_lists(types, scheme != 'erase')
+
+
+def axioms(size):
+    line = 'fof(monotone,axiom,![X,Y]: (less(X,succ(Y)) => (even(X) | ~ odd(Y,plus(X,Y))))).\n'
+    return line * (size // len(line))
 
 
 PAIRS = ['tff(pair,type,pair: ($tType * $tType) > $tType).', *(f'tff(t{i},type,t{i}: $tType).' for i in range(100))]
@@ -136,7 +166,8 @@ ENDS = {'reading': BAD_WORD, 'typing': TWO_CONJECTURES, 'encoding': ''}
 STATUSES = {'reading': 1, 'typing': 1, 'encoding': 0}
 MEMORY = {'reading': 64, 'typing': 200, 'encoding': 200}
 MOST_OF_WC = {'reading': 25}
-SCHEMES = ['guards', 'tags', 'guards_cover', 'tags_cover']
+SCHEMES = ['guards', 'tags', 'guards_cover', 'tags_cover', 'args', 'erase',
+           'guards_light', 'tags_light', 'guards_feather', 'tags_feather']
 
 
 def measured(words, output=os.devnull):
@@ -223,7 +254,7 @@ def guards(options, base, missed):
 
 
 def schemes(missed):
-    """The typed lists by each scheme that is built, at three numbers of types."""
+    """The typed lists by each scheme, at three numbers of types; for those that take no type variables each type has lists of its own."""
     print(f'{"schemes":9} {"scheme":12} {"types":>10} {"output":>10} {"ns/byte":>9}')
     least = {}
     for scheme in SCHEMES:
@@ -232,7 +263,7 @@ def schemes(missed):
             with tempfile.TemporaryDirectory() as folder:
                 file, output = os.path.join(folder, 'p.p'), os.path.join(folder, 'out')
                 with open(file, 'w') as out:
-                    out.write(typed_lists(MOST, types))
+                    out.write(scheme_text(scheme, types))
                 seconds, _, status = best([TFENC, 'encode', file, '--scheme', scheme], output)
                 written = os.path.getsize(output)
             times.append(seconds / max(1, written))
